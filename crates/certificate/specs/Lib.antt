@@ -1,0 +1,6 @@
+pub mod Result
+pub mod Bytes
+pub mod File
+pub mod Layout
+pub mod Writing
+pub mod Views

@@ -1,0 +1,4 @@
+pub mod Rules
+pub mod Truth
+pub mod Match
+pub mod Step

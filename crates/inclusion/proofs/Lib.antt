@@ -1,0 +1,4 @@
+pub mod Below
+pub mod Settled
+pub mod Nodes
+pub mod Sets

@@ -1,0 +1,1 @@
+// Basic statements, rules 1 to 5: which sets of states and actions the entries hold, and which inclusions are true.

@@ -1,0 +1,14 @@
+-- States and masks. Either is the number whose bit f, of weight 2 ^ f, says whether fact f is on.
+-- Assumes nothing.
+use Prim.Native.Nat.{ℕ, _-_}
+use mathlib.Core.Bool.{Bool}
+use lib.Dec.{eqb}
+use lib.Bits.{bitAnd}
+
+-- every fact of the mask m is on in s
+unfoldable pub allOn : ℕ → ℕ → Bool
+allOn m s = eqb (bitAnd s m) m
+
+-- s without the facts of m
+unfoldable pub without : ℕ → ℕ → ℕ
+without s m = s - bitAnd s m

@@ -1,0 +1,4 @@
+pub mod Facts
+pub mod Task
+pub mod Reach
+pub mod System

@@ -1,0 +1,5 @@
+pub mod Computed
+pub mod Points
+pub mod Judgements
+pub mod Certain
+pub mod Shallow

@@ -1,0 +1,5 @@
+pub mod Reply
+pub mod Question
+pub mod Cases
+pub mod Certain
+pub mod Points
