@@ -9,3 +9,12 @@ pub mod Back
 pub mod BackEntries
 pub mod Written
 pub mod WrittenBytes
+pub mod ByteLaws
+pub mod NumberLaws
+pub mod TableLaws
+pub mod IndexLaws
+pub mod ItemLaws
+pub mod EntryLaws
+pub mod SectionLaws
+pub mod ViewLaws
+pub mod KnownLaws

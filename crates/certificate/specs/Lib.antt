@@ -4,3 +4,5 @@ pub mod File
 pub mod Layout
 pub mod Writing
 pub mod Views
+pub mod Index
+pub mod Known

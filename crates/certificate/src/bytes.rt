@@ -1,1 +1,83 @@
-// bytes
+// Numbers of the file, big-endian. A number that runs past the end reads as 0, so that no caller owes a bound.
+ghost use mathlib.Core.Path.{_≡_};
+ghost use Prim.Native.Nat.{_+_, _*_, _≤_};
+ghost use lib.ListN.{length};
+ghost use Rattle.certificate.specs.Bytes.{number};
+ghost use Rattle.certificate.specs.Views.{numberAt};
+
+// Two bytes as a number.
+fn joined(high: u8, low: u8) -> u16
+    ensures { λ r. ⌜ r ≡ high * 256 + low ⌝ }
+{
+    (high as u16) * 256 + (low as u16)
+}
+
+// The two, four or eight bytes from a place that has them, each put together from its halves.
+fn u16_in(file: &[u8], at: usize) -> u16
+    requires { ⌜ at + 2 ≤ length (now file) ⌝ }
+    ensures { λ r. ⌜ r ≡ number 2 (now (file .entry)) at ⌝ }
+{
+    joined(file[at], file[at + 1])
+}
+
+fn u32_in(file: &[u8], at: usize) -> u32
+    requires { ⌜ at + 4 ≤ length (now file) ⌝ }
+    ensures { λ r. ⌜ r ≡ number 4 (now (file .entry)) at ⌝ }
+{
+    let high = u16_in(file, at);
+    let low = u16_in(file, at + 2);
+    (high as u32) * 65536 + (low as u32)
+}
+
+fn u64_in(file: &[u8], at: usize) -> u64
+    requires { ⌜ at + 8 ≤ length (now file) ⌝ }
+    ensures { λ r. ⌜ r ≡ number 8 (now (file .entry)) at ⌝ }
+{
+    let high = u32_in(file, at);
+    let low = u32_in(file, at + 4);
+    (high as u64) * 4294967296 + (low as u64)
+}
+
+// The byte at a place.
+pub fn byte_at(file: &[u8], at: usize) -> u8
+    ensures { λ r. ⌜ r ≡ numberAt 1 (now (file .entry)) at ⌝ }
+{
+    if at < file.len() { file[at] } else { 0 }
+}
+
+// The number in the two, four or eight bytes from a place.
+pub fn u16_at(file: &[u8], at: usize) -> u16
+    ensures { λ r. ⌜ r ≡ numberAt 2 (now (file .entry)) at ⌝ }
+{
+    if file.len() < 2 {
+        return 0;
+    }
+    if file.len() - 2 < at {
+        return 0;
+    }
+    u16_in(file, at)
+}
+
+pub fn u32_at(file: &[u8], at: usize) -> u32
+    ensures { λ r. ⌜ r ≡ numberAt 4 (now (file .entry)) at ⌝ }
+{
+    if file.len() < 4 {
+        return 0;
+    }
+    if file.len() - 4 < at {
+        return 0;
+    }
+    u32_in(file, at)
+}
+
+pub fn u64_at(file: &[u8], at: usize) -> u64
+    ensures { λ r. ⌜ r ≡ numberAt 8 (now (file .entry)) at ⌝ }
+{
+    if file.len() < 8 {
+        return 0;
+    }
+    if file.len() - 8 < at {
+        return 0;
+    }
+    u64_in(file, at)
+}

@@ -1,6 +1,7 @@
 // The file: a task and its certificate, how they are laid out and read. Replies 1 to 7.
 
 pub mod bytes;
+pub mod known;
 pub mod layout;
 pub mod views;
 

@@ -2,3 +2,9 @@ pub mod Below
 pub mod Settled
 pub mod Nodes
 pub mod Sets
+pub mod Lists
+pub mod Leaves
+pub mod Moved
+pub mod Reduced
+pub mod Filled
+pub mod LeafKinds

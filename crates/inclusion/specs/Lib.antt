@@ -1,3 +1,9 @@
 pub mod Meaning
 pub mod Shapes
 pub mod Statements
+pub mod Counter
+pub mod Clauses
+pub mod Listed
+pub mod Flat
+pub mod Verdict
+pub mod Gathered

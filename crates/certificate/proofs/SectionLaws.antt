@@ -1,0 +1,145 @@
+-- Entries one after the other, with their places, and where the parts of a file that is read stand.
+-- Assumes nothing.
+use mathlib.Core.Path.{_≡_, refl, sym, ap, _∙_, subst}
+use Prim.Native.Nat.{ℕ, zero, suc, _+_, _*_, _≤_, _<_}
+use native.Mathlib.Omega.{arith}
+use mathlib.Core.Bool.{Bool, _&&_}
+use mathlib.Core.List.{List, [], _∷_}
+use lib.ListN.{length, getD}
+use lib.Dec.{T, eqb, leb, leb→le}
+use Rattle.task.specs.Task.{Task}
+use Rattle.certificate.specs.Result.{Result, found}
+use Rattle.certificate.specs.Bytes.{number}
+use Rattle.certificate.specs.File.{ActionSet, StateSet, Step, File}
+use Rattle.certificate.specs.Layout.{items, field, count, mask, action, step, Kind, actionKinds, stateKinds, entry, entries, readTask, readFile}
+use Rattle.certificate.specs.Views.{numberAt, afterEntry, entryPlace, placesOf}
+use Rattle.certificate.specs.Index.{actionIn}
+use Rattle.certificate.proofs.Results.{found-same, bind-case, need-case, and-out}
+use Rattle.certificate.proofs.NumberLaws.{number-at}
+use Rattle.certificate.proofs.ItemLaws.{Items, items-stand, count-stands, action-stands, stepRead, step-stands}
+use Rattle.certificate.proofs.EntryLaws.{StateSetStands, ActionSetStands, Ends, state-set-stands, action-set-stands}
+
+-- entry j of those that start at place p is what stands at its place; they end within the file
+pub record Entries {A : Type 0} (bytes : List ℕ) (Stands : ℕ → A → Type 0) (p : ℕ) (xs : List A) : Type 0 where
+  pub inside : entryPlace bytes p (length xs) ≤ length bytes
+  pub here : (d : A) (j : ℕ) → j < length xs → Stands (entryPlace bytes p j) (getD xs j d)
+
+-- the places of the entries after the first one
+place-next : (bytes : List ℕ) (p j : ℕ) → entryPlace bytes (afterEntry bytes p) j ≡ entryPlace bytes p (suc j)
+unfolding entryPlace
+place-next bytes p zero = refl
+place-next bytes p (suc j) = ap (afterEntry bytes) (place-next bytes p j)
+
+-- they do not go back
+pub place-le : (bytes : List ℕ) (p j : ℕ) → p ≤ entryPlace bytes p j
+unfolding entryPlace afterEntry
+place-le bytes p zero = omega arith
+place-le bytes p (suc j) = let h = place-le bytes p j in omega arith
+
+module _ {A : Type 0} (bytes : List ℕ) (S : ℕ → A → Type 0) where
+  entries-none : (p : ℕ) → p ≤ length bytes → Entries bytes S p []
+  unfolding entryPlace
+  entries-none p b = record { inside = b; here = λ d j n. absurd (omega arith) }
+
+  cons-here : (p : ℕ) (x : A) (xs : List A) → S p x → Entries bytes S (afterEntry bytes p) xs
+      → (d : A) (j : ℕ) → j < suc (length xs) → S (entryPlace bytes p j) (getD (x ∷ xs) j d)
+  unfolding entryPlace
+  cons-here p x xs s h d zero l = s
+  cons-here p x xs s h d (suc j) l = subst (λ (q : ℕ). S q (getD xs j d)) (place-next bytes p j) (h .here d j (omega arith))
+
+  module _ (kinds : ℕ → List (Kind A)) (stands : (i p : ℕ) (x : A) → entry bytes (kinds i) p ≡ found x → Ends bytes p × S p x) where
+    -- entries that are read stand one after the other, and the place after them is that of the next
+    entries-stand : (k i p : ℕ) (r : List A × ℕ) → p ≤ length bytes → entries bytes kinds i p k ≡ found r
+        → (length (r .0) ≡ k) × (r .1 ≡ entryPlace bytes p (length (r .0))) × Entries bytes S p (r .0)
+    unfolding entries entryPlace afterEntry
+    entries-stand zero i p r b e =
+        subst (λ (s : List A × ℕ). (length (s .0) ≡ 0) × (s .1 ≡ entryPlace bytes p (length (s .0))) × Entries bytes S p (s .0)) (found-same e)
+        (refl, refl, entries-none p b)
+    entries-stand (suc k) i p r b e =
+        bind-case (entry bytes (kinds i) p) _ r e λ x x! e₁.
+        bind-case (entries bytes kinds (suc i) (p + 2 + number 2 bytes p) k) _ r e₁ λ s s! q.
+        let a = stands i p x x! in
+        let n : p + 2 + number 2 bytes p ≡ afterEntry bytes p = ap (λ (m : ℕ). p + 2 + m) (sym (number-at 2 bytes p (omega arith))) in
+        let h = entries-stand k (suc i) (afterEntry bytes p) s (a .0) (ap (λ (m : ℕ). entries bytes kinds (suc i) m k) (sym n) ∙ s!) in
+        subst (λ (z : List A × ℕ). (length (z .0) ≡ suc k) × (z .1 ≡ entryPlace bytes p (length (z .0))) × Entries bytes S p (z .0)) (found-same q) (
+          ap suc (h .0),
+          h .1 ∙ place-next bytes p (length (s .0)),
+          record {
+            inside = subst (λ (m : ℕ). m ≤ length bytes) (place-next bytes p (length (s .0))) (h .2 .inside);
+            here = cons-here p x (s .0) (a .1) (h .2);
+          },
+        )
+
+-- ---- the file
+
+task-stands : (bytes : List ℕ) (r : Task × ℕ) → readTask bytes ≡ found r
+    → (r .1 ≡ 24 + 24 * length (r .0 .actions)) × Items bytes 24 (actionIn bytes) 24 (r .0 .actions)
+unfolding readTask
+task-stands bytes r e =
+    bind-case (field bytes 1 4) _ r e λ v _ e₁.
+    need-case (eqb v 1) 2 4 _ r e₁ λ _ e₂.
+    bind-case (field bytes 1 5) _ r e₂ λ n _ e₃.
+    need-case (leb 1 n && leb n 64) 4 5 _ r e₃ λ _ e₄.
+    bind-case (mask bytes n 6) _ r e₄ λ _ _ e₅.
+    bind-case (mask bytes n 14) _ r e₅ λ _ _ e₆.
+    bind-case (count bytes 0 256 22) _ r e₆ λ m m! e₇.
+    bind-case (items (action bytes n) 24 24 m) _ r e₇ λ acts acts! q.
+    let c = count-stands bytes 0 256 22 m m! in
+    let h = items-stand bytes 24 (actionIn bytes) (action bytes n) (action-stands bytes n) m 24 acts (c .0) acts! in
+    subst (λ (x : Task × ℕ). (x .1 ≡ 24 + 24 * length (x .0 .actions)) × Items bytes 24 (actionIn bytes) 24 (x .0 .actions)) (found-same q)
+    (ap (λ (k : ℕ). 24 + 24 * k) (sym (h .0)), h .1)
+
+-- where everything stands; the steps end the file
+pub record Parts (bytes : List ℕ) (f : File) : Type 0 where
+  pub short : length bytes ≤ 65536
+  pub actions : Items bytes 24 (actionIn bytes) 24 (f .task .actions)
+  pub actionSets : Entries bytes (ActionSetStands bytes) (placesOf bytes f .«action_sets_at») (f .actionSets)
+  pub stateSets : Entries bytes (StateSetStands bytes) (placesOf bytes f .«state_sets_at») (f .stateSets)
+  pub steps : Items bytes 12 (stepRead bytes) (placesOf bytes f .«steps_at») (f .steps)
+  pub end : length bytes ≡ placesOf bytes f .«steps_at» + 12 * length (f .steps)
+
+-- the same for a file put together from its parts, at the places after them
+parts-at : (bytes : List ℕ) (t : Task) (es : List ActionSet) (ss : List StateSet) (ks : List Step) (a s k : ℕ)
+    → a ≡ 24 + 24 * length (t .actions) → s ≡ entryPlace bytes (a + 2) (length es) → k ≡ entryPlace bytes (s + 2) (length ss)
+    → length bytes ≤ 65536 → Items bytes 24 (actionIn bytes) 24 (t .actions) → Entries bytes (ActionSetStands bytes) (a + 2) es
+    → Entries bytes (StateSetStands bytes) (s + 2) ss → Items bytes 12 (stepRead bytes) (k + 2) ks → length bytes ≤ k + 2 + 12 * length ks
+    → Parts bytes (record { task = t; actionSets = es; stateSets = ss; steps = ks })
+unfolding placesOf
+parts-at bytes t es ss ks a s k a! s! k! short acts aes sss kks end =
+    let n : a + 2 ≡ 26 + 24 * length (t .actions) = omega arith in
+    let s₁ : s + 2 ≡ entryPlace bytes (26 + 24 * length (t .actions)) (length es) + 2 = ap (λ (q : ℕ). q + 2) (s! ∙ ap (λ (q : ℕ). entryPlace bytes q (length es)) n) in
+    let k₁ : k + 2 ≡ entryPlace bytes (entryPlace bytes (26 + 24 * length (t .actions)) (length es) + 2) (length ss) + 2 =
+    ap (λ (q : ℕ). q + 2) (k! ∙ ap (λ (q : ℕ). entryPlace bytes q (length ss)) s₁) in
+    let i = kks .inside in
+    record {
+      short = short;
+      actions = acts;
+      actionSets = subst (λ (q : ℕ). Entries bytes (ActionSetStands bytes) q es) n aes;
+      stateSets = subst (λ (q : ℕ). Entries bytes (StateSetStands bytes) q ss) s₁ sss;
+      steps = subst (λ (q : ℕ). Items bytes 12 (stepRead bytes) q ks) k₁ kks;
+      end = subst (λ (q : ℕ). length bytes ≡ q + 12 * length ks) k₁ (omega arith);
+    }
+
+-- a file that is read has its parts where the places say
+pub file-parts : (bytes : List ℕ) (f : File) → readFile bytes ≡ found f → Parts bytes f
+unfolding readFile
+file-parts bytes f e =
+    need-case (leb 4 (length bytes) && leb (length bytes) 65536) 1 0 _ f e λ l e₁.
+    need-case (eqb (number 4 bytes 0 + 4) (length bytes)) 1 0 _ f e₁ λ _ e₂.
+    bind-case (readTask bytes) _ f e₂ λ t t! e₃.
+    bind-case (count bytes 0 256 (t .1)) _ f e₃ λ ac ac! e₄.
+    bind-case (entries bytes (actionKinds bytes (length (t .0 .actions))) 0 (t .1 + 2) ac) _ f e₄ λ es es! e₅.
+    bind-case (count bytes 0 512 (es .1)) _ f e₅ λ sc sc! e₆.
+    bind-case (entries bytes (stateKinds bytes (t .0 .facts) ac) 0 (es .1 + 2) sc) _ f e₆ λ ss ss! e₇.
+    bind-case (count bytes 1 2048 (ss .1)) _ f e₇ λ kc kc! e₈.
+    bind-case (items (step bytes) 12 (ss .1 + 2) kc) _ f e₈ λ ks ks! e₉.
+    need-case (leb (length bytes) (ss .1 + 2 + 12 * kc)) 3 (ss .1 + 2 + 12 * kc) _ f e₉ λ last q.
+    let short = and-out (leb 4 (length bytes)) (leb (length bytes) 65536) l .1 in
+    let a = task-stands bytes t t! in
+    let b = entries-stand bytes (ActionSetStands bytes) (actionKinds bytes (length (t .0 .actions))) (action-set-stands bytes (length (t .0 .actions))) ac 0 (t .1 + 2) es (count-stands bytes 0 256 (t .1) ac ac! .0) es! in
+    let c = entries-stand bytes (StateSetStands bytes) (stateKinds bytes (t .0 .facts) ac) (state-set-stands bytes (t .0 .facts) ac) sc 0 (es .1 + 2) ss (count-stands bytes 0 512 (es .1) sc sc! .0) ss! in
+    let d = items-stand bytes 12 (stepRead bytes) (step bytes) (step-stands bytes) kc (ss .1 + 2) ks (count-stands bytes 1 2048 (ss .1) kc kc! .0) ks! in
+    let n = d .0 in
+    let end : length bytes ≤ ss .1 + 2 + 12 * length ks = (let h = leb→le (length bytes) (ss .1 + 2 + 12 * kc) last in omega arith) in
+    subst (Parts bytes) (found-same q)
+    (parts-at bytes (t .0) (es .0) (ss .0) ks (t .1) (es .1) (ss .1) (a .0) (b .1) (c .1) (leb→le (length bytes) 65536 short) (a .1) (b .2) (c .2) (d .1) end)

@@ -1,0 +1,106 @@
+-- The views of a file that is read are those of what it holds: entries, their items, actions and steps, each at its place.
+-- Assumes nothing.
+use mathlib.Core.Path.{_≡_, refl, sym, ap, _∙_, subst}
+use Prim.Native.Nat.{ℕ, zero, suc, _+_, _-_, _*_, _≤_, _<_}
+use native.Mathlib.Omega.{arith}
+use mathlib.Core.List.{List, [], _∷_}
+use lib.ListN.{length, getD}
+use Rattle.task.specs.Task.{Task, actionAt}
+use Rattle.task.specs.declared.Action.{Action}
+use Rattle.certificate.specs.declared.Places.{Places}
+use Rattle.certificate.specs.Result.{found}
+use Rattle.certificate.specs.File.{ActionSet, all, StateSet, basic, empty, Step, File, actionSetAt, stateSetAt, stepAt}
+use Rattle.certificate.specs.Layout.{readFile}
+use Rattle.certificate.specs.Views.{numberAt, entryPlace, placesOf, viewOfStep}
+use Rattle.certificate.specs.Index.{actionIn, fieldsAt, fieldsOf, stepOf, capped, Index}
+use Rattle.certificate.proofs.Reading.{Read, file-read}
+use Rattle.certificate.proofs.ItemLaws.{Items, stepRead}
+use Rattle.certificate.proofs.EntryLaws.{StateSetStands, ActionSetStands}
+use Rattle.certificate.proofs.SectionLaws.{Entries, place-le, Parts, file-parts}
+
+-- the numbers of a file's outline are small, and its places lie within the file, in their order
+pub record PlacesFit (bytes : List ℕ) (at : Places) : Type 0 where
+  pub short : length bytes ≤ 65536
+  pub some-facts : 1 ≤ at .facts
+  pub few-facts : at .facts ≤ 64
+  pub few-actions : at .actions ≤ 256
+  pub few-action-sets : at .«action_sets» ≤ 256
+  pub few-state-sets : at .«state_sets» ≤ 512
+  pub some-steps : 1 ≤ at .steps
+  pub few-steps : at .steps ≤ 2048
+  pub after-actions : at .«action_sets_at» ≡ 26 + 24 * at .actions
+  pub after-action-sets : at .«action_sets_at» + 2 ≤ at .«state_sets_at»
+  pub after-state-sets : at .«state_sets_at» + 2 ≤ at .«steps_at»
+  pub after-steps : at .«steps_at» + 12 * at .steps ≡ length bytes
+
+module _ (bytes : List ℕ) (f : File) (r : readFile bytes ≡ found f) where
+  parts : Parts bytes f
+  parts = file-parts bytes f r
+
+  pub places-fit : PlacesFit bytes (placesOf bytes f)
+  unfolding placesOf
+  places-fit =
+      let p = parts in
+      let h = file-read bytes f r in
+      let a : ℕ = 26 + 24 * length (f .task .actions) in
+      let s : ℕ = entryPlace bytes a (length (f .actionSets)) + 2 in
+      let u = place-le bytes a (length (f .actionSets)) in
+      let v = place-le bytes s (length (f .stateSets)) in
+      record {
+        short = p .short;
+        some-facts = h .task .some-facts;
+        few-facts = h .task .few-facts;
+        few-actions = h .task .few-actions;
+        few-action-sets = h .few-action-sets;
+        few-state-sets = h .few-state-sets;
+        some-steps = h .some-steps;
+        few-steps = h .few-steps;
+        after-actions = refl;
+        after-action-sets = omega arith;
+        after-state-sets = omega arith;
+        after-steps = sym (p .end);
+      }
+
+  -- state set e stands at its place, with the view and the items of what was read
+  pub state-set-at : (e : ℕ) → e < length (f .stateSets) → StateSetStands bytes (entryPlace bytes (placesOf bytes f .«state_sets_at») e) (stateSetAt f e)
+  unfolding stateSetAt
+  state-set-at e l = parts .stateSets .here (basic empty) e l
+
+  pub action-set-at : (e : ℕ) → e < length (f .actionSets) → ActionSetStands bytes (entryPlace bytes (placesOf bytes f .«action_sets_at») e) (actionSetAt f e)
+  unfolding actionSetAt
+  action-set-at e l = parts .actionSets .here all e l
+
+  -- action i is the one that stands 24 bytes for each before it after byte 24
+  pub action-at : (i : ℕ) → i < length (f .task .actions) → actionIn bytes (24 + 24 * i) ≡ actionAt (f .task) i
+  unfolding actionAt
+  action-at i l = parts .actions .here _ i l
+
+  -- step k has the fields and the view of what stands at its place
+  pub fields-at : (k : ℕ) → k < length (f .steps) → fieldsAt bytes (placesOf bytes f .«steps_at» + 12 * k) ≡ fieldsOf (stepAt f k)
+  unfolding stepAt fieldsAt fieldsOf stepRead
+  fields-at k l = ap fieldsOf (parts .steps .here (record { rule = 0; kind = 0; left = 0; right = 0; premises = [] }) k l)
+
+  pub step-at : (k : ℕ) → k < length (f .steps) → stepOf (fieldsAt bytes (placesOf bytes f .«steps_at» + 12 * k)) ≡ viewOfStep (stepAt f k)
+  unfolding stepOf viewOfStep fieldsOf
+  step-at k l = ap stepOf (fields-at k l)
+
+  -- ---- the same by the table of places
+
+  module _ (index : List ℕ) (t : Index bytes (placesOf bytes f) index) where
+    -- a place that is within the file is in the table as it is
+    kept : (p x i : ℕ) → x ≡ capped p → p + 3 + i ≤ length bytes → x ≡ p
+    kept p x i e l = let s = parts .short in omega arith
+
+    pub indexed-state-set : (e : ℕ) → e < length (f .stateSets) → StateSetStands bytes (getD index (256 + e) 0) (stateSetAt f e)
+    unfolding placesOf
+    indexed-state-set e l =
+        let s = state-set-at e l in
+        let n = places-fit .few-state-sets in
+        subst (λ (q : ℕ). StateSetStands bytes q (stateSetAt f e)) (sym (kept _ _ _ (t .stateSets e l (omega arith)) (s .inside))) s
+
+    pub indexed-action-set : (e : ℕ) → e < length (f .actionSets) → ActionSetStands bytes (getD index e 0) (actionSetAt f e)
+    unfolding placesOf
+    indexed-action-set e l =
+        let s = action-set-at e l in
+        let n = places-fit .few-action-sets in
+        subst (λ (q : ℕ). ActionSetStands bytes q (actionSetAt f e)) (sym (kept _ _ _ (t .actionSets e l (omega arith)) (s .inside))) s

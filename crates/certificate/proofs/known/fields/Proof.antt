@@ -1,0 +1,19 @@
+-- `known::fields`: the steps stand one after the other from their place.
+-- Assumes nothing.
+use mathlib.Core.Path.{_∙_}
+use native.Mathlib.Omega.{arith}
+use borrow.Author.Needs.{needs}
+use Rattle.certificate.proofs.KnownLaws.{known-fields, known-fit}
+use Rattle.certificate.proofs.known.fields.Statement.{statement}
+use Rattle.certificate.proofs.known.fields.Tie as tie
+
+add-p : tie.Need-add-p
+add-p c = let h = known-fit _ _ _ (c .before .before .pre .0) in omega arith
+
+returns : tie.Need-returns
+returns c =
+    let s = c .before .before .before in
+    c .fields-at .ensures ∙ known-fields _ _ _ (s .pre .0) (s .args .k) (s .pre .1)
+
+pub fields-spec : {M : Type 1} → statement M
+fields-spec = tie.close (tie.spec (λ c. search needs) add-p (λ c κs. search needs) returns)

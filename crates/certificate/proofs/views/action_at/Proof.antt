@@ -1,0 +1,23 @@
+-- `views::action_at` meets its contract: it is made of the three numbers that are read.
+-- Assumes nothing.
+use Rattle.certificate.specs.Index.{actionIn}
+use borrow.Author.Needs.{needs}
+use Rattle.certificate.proofs.views.action_at.Statement.{statement}
+use Rattle.certificate.proofs.views.action_at.Tie as tie
+
+returns : tie.Need-returns
+unfolding actionIn
+returns c = cc
+
+pub action-at-spec : {M : Type 1} → statement M
+action-at-spec =
+    tie.close
+    (tie.spec
+    (λ c. search needs)
+    (λ c. search needs)
+    (λ c κs. search needs)
+    (λ c. search needs)
+    (λ c κs. search needs)
+    (λ c. search needs)
+    (λ c κs. search needs)
+    returns)

@@ -1,0 +1,15 @@
+-- `views::actions_of` meets its contract: each arm is the table's element at its kind; what is left is 0 or past the table.
+-- Assumes nothing.
+use Rattle.certificate.specs.Index.{actionsOf, actionTable}
+use Rattle.certificate.proofs.TableLaws.{actions-left}
+use Rattle.certificate.proofs.views.actions_of.Statement.{statement}
+use Rattle.certificate.proofs.views.actions_of.Tie as tie
+
+pub actions-of-spec : {M : Type 1} → statement M
+unfolding actionsOf actionTable
+actions-of-spec =
+    tie.close
+    (tie.spec
+    (λ c. rw (c .before .match .keys1))
+    (λ c. rw (c .match .keys2))
+    (λ c. actions-left _ (c .match .rest)))

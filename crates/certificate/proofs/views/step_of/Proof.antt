@@ -1,0 +1,13 @@
+-- `views::step_of` meets its contract: it is made of the fields and their judgement.
+-- Assumes nothing.
+use Rattle.certificate.specs.Index.{stepOf}
+use borrow.Author.Needs.{needs}
+use Rattle.certificate.proofs.views.step_of.Statement.{statement}
+use Rattle.certificate.proofs.views.step_of.Tie as tie
+
+returns : tie.Need-returns
+unfolding stepOf
+returns c = cc
+
+pub step-of-spec : {M : Type 1} → statement M
+step-of-spec = tie.close (tie.spec (λ c κs. search needs) returns)

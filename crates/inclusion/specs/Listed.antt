@@ -1,0 +1,54 @@
+-- Leaves of kinds 0 to 5 as the code holds them, and what makes a statement over listed states untrue.
+-- Only the code's inner promises speak of this.
+-- Assumes nothing.
+use Prim.Native.Nat.{ℕ, zero, suc, _+_, _*_, _<_}
+use mathlib.Core.Bool.{Bool, false, not}
+use mathlib.Core.List.{List, [], _∷_}
+use lib.ListN.{getD}
+use lib.Dec.{T, eqb}
+use Rattle.task.specs.declared.Action.{Action}
+use Rattle.task.specs.Facts.{allOn}
+use Rattle.task.specs.Task.{applies}
+use Rattle.task.specs.Reach.{member}
+use Rattle.certificate.specs.Views.{numberAt}
+use Rattle.certificate.specs.Writing.{Ascending}
+use Rattle.inclusion.specs.Meaning.{allBelow, meets}
+use Rattle.inclusion.specs.Counter.{seen}
+use Rattle.inclusion.specs.Clauses.{clauseAt}
+
+-- `count` states of 8 bytes from place `at`
+unfoldable pub statesAt : List ℕ → ℕ → ℕ → List ℕ
+statesAt bytes at zero = []
+statesAt bytes at (suc k) = numberAt 8 bytes at ∷ statesAt bytes (at + 8) k
+
+module _ (bytes : List ℕ) (init goal : ℕ) where
+  -- a leaf holds state s: none, the start, the forbidden states, listed states, and states that meet each clause
+  unfoldable pub leafHolds : ℕ → ℕ → ℕ → ℕ → Bool
+  leafHolds kind at count s =
+      getD (false ∷ eqb s init ∷ allOn goal s ∷ member s (statesAt bytes at count) ∷ []) kind
+      (allBelow count (λ i. meets s (clauseAt bytes init goal kind at i)))
+
+  -- the states of a leaf of kinds 0, 1 and 3, listed
+  unfoldable pub leafStates : ℕ → ℕ → ℕ → List ℕ
+  leafStates kind at count = getD ([] ∷ (init ∷ []) ∷ [] ∷ statesAt bytes at count ∷ []) kind []
+
+  -- leaf j of a flat array, four numbers each: kind, place, count, and 1 where it is asked about the state after the action
+  unfoldable pub leafHoldsAt : Action → ℕ → List ℕ → ℕ → Bool
+  leafHoldsAt a s leaves j =
+      leafHolds (getD leaves (4 * j) 0) (getD leaves (4 * j + 1) 0) (getD leaves (4 * j + 2) 0) (seen (eqb (getD leaves (4 * j + 3) 0) 1) a s)
+
+  unfoldable pub leafStatesAt : List ℕ → ℕ → List ℕ
+  leafStatesAt leaves j = leafStates (getD leaves (4 * j) 0) (getD leaves (4 * j + 1) 0) (getD leaves (4 * j + 2) 0)
+
+  -- a listed leaf's states ascend
+  abbrev pub AscendingAt : List ℕ → ℕ → Type 0
+  AscendingAt leaves j =
+      T (eqb (getD leaves (4 * j) 0) 3) → Ascending 0 (statesAt bytes (getD leaves (4 * j + 1) 0) (getD leaves (4 * j + 2) 0))
+
+  -- the action applies in a state of the anchor, where each of m left leaves holds and none of r right leaves
+  pub record Shows (a : Action) (left : List ℕ) (m : ℕ) (right : List ℕ) (r anchor : ℕ) : Type 0 where
+    pub state : ℕ
+    pub listed : T (member state (leafStatesAt left anchor))
+    pub allowed : T (applies a state)
+    pub holds : (j : ℕ) → j < m → T (leafHoldsAt a state left j)
+    pub fails : (j : ℕ) → j < r → T (not (leafHoldsAt a state right j))
