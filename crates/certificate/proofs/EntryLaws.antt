@@ -1,16 +1,14 @@
 -- An entry that is read, with its place: its view, and where its items stand.
 -- Assumes nothing.
 use mathlib.Core.Path.{_≡_, refl, sym, ap, _∙_, subst}
-use mathlib.Core.Option.{Option, none, some}
-use Prim.Native.Nat.{ℕ, zero, suc, _+_, _-_, _*_, _/_, _%_, _≤_, _<_}
+use mathlib.Core.Option.{some}
+use Prim.Native.Nat.{ℕ, zero, suc, _+_, _-_, _/_, _≤_}
 use native.Mathlib.Omega.{arith}
-use mathlib.Core.Bool.{Bool, _&&_}
+use mathlib.Core.Bool.{Bool}
 use mathlib.Core.List.{List, [], _∷_}
 use lib.ListN.{length, getElem?}
-use lib.Dec.{T, eqb, leb, leb→le, eqb→eq}
+use lib.Dec.{T, leb, leb→le}
 use Rattle.certificate.specs.declared.Clause.{Clause}
-use Rattle.certificate.specs.declared.StateEntry.{StateEntry}
-use Rattle.certificate.specs.declared.ActionEntry.{ActionEntry}
 use Rattle.certificate.specs.declared.views.Head.{Head}
 use Rattle.certificate.specs.Result.{Result, found, _>>=_, known}
 use Rattle.certificate.specs.Bytes.{number, inside}
@@ -18,7 +16,7 @@ use Rattle.certificate.specs.File.{ActionSet, all, listed, either, Basic
 use Rattle.certificate.specs.Layout.{items, ascending, field, mask, reference, clause, Kind, plain, upTo, one, two, clauses, actionKinds, stateKinds, hornRule, twoCnfRule, entry}
 use Rattle.certificate.specs.Views.{numberAt, stateEntryAt, actionEntryAt, span, viewOfBasic, viewOf, viewOfActions}
 use Rattle.certificate.specs.Index.{headAt, stateTable, stateOf, actionTable, actionsOf, clauseAt}
-use Rattle.certificate.proofs.Results.{found-same, bind-case, need-case, known-out, and-out}
+use Rattle.certificate.proofs.Results.{found-same, bind-case, need-case, known-out}
 use Rattle.certificate.proofs.NumberLaws.{number-at}
 use Rattle.certificate.proofs.TableLaws.{state-here, actions-here}
 use Rattle.certificate.proofs.ItemLaws.{Items, Stands, items-stand, ascending-items, field-stands, mask-stands, reference-stands, clause-stands}

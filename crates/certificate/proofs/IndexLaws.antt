@@ -1,7 +1,7 @@
 -- The table of places as a loop fills it, and that two fillings make the table of a file.
 -- Assumes nothing.
-use mathlib.Core.Path.{_≡_, refl, sym, ap, _∙_, subst}
-use Prim.Native.Nat.{ℕ, zero, suc, _+_, _≤_, _<_}
+use mathlib.Core.Path.{_≡_, refl, _∙_, subst}
+use Prim.Native.Nat.{ℕ, _+_, _≤_, _<_}
 use native.Mathlib.Numerals.{add-one}
 use native.Mathlib.Omega.{arith}
 use mathlib.Core.List.{List}
@@ -49,6 +49,7 @@ pub indexed-file : (bytes : List ℕ) (at : Places) (first second third : List �
 indexed-file bytes at first second third n a s =
     let m = a .size in
     record {
+      size = s .size ∙ m ∙ n;
       actionSets = λ e l b. s .below e b ∙ (let z : 0 + e ≡ e = omega arith in subst (λ (j : ℕ). getD second j 0 ≡ capped (entryPlace bytes (at .«action_sets_at») e)) z (a .here e l (omega arith)));
       stateSets = λ e l b. s .here e l (omega arith);
     }

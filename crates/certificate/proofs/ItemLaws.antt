@@ -1,17 +1,15 @@
 -- Items one after the other, with their places: what is read as item i stands `size * i` bytes after the first.
 -- Assumes nothing.
-use mathlib.Core.Path.{_≡_, refl, sym, ap, _∙_, subst}
+use mathlib.Core.Path.{_≡_, refl, ap, _∙_, subst}
 use Prim.Native.Nat.{ℕ, zero, suc, _+_, _*_, _^_, _≤_, _<_}
 use native.Mathlib.Nat.{mul-suc}
 use native.Mathlib.Omega.{arith}
 use mathlib.Core.Bool.{Bool, _&&_}
 use mathlib.Core.List.{List, [], _∷_}
 use lib.ListN.{length, getD}
-use lib.Dec.{T, leb, ltb, leb→le}
-use Rattle.task.specs.declared.Action.{Action}
-use Rattle.certificate.specs.declared.Clause.{Clause}
+use lib.Dec.{leb, ltb, leb→le}
 use Rattle.certificate.specs.Result.{Result, found}
-use Rattle.certificate.specs.Bytes.{number, inside}
+use Rattle.certificate.specs.Bytes.{inside}
 use Rattle.certificate.specs.File.{Step}
 use Rattle.certificate.specs.Layout.{items, ascending, field, count, mask, reference, action, clause, step}
 use Rattle.certificate.specs.Views.{numberAt}

@@ -18,3 +18,4 @@ pub mod EntryLaws
 pub mod SectionLaws
 pub mod ViewLaws
 pub mod KnownLaws
+pub mod SeenLaws

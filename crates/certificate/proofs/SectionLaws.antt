@@ -3,16 +3,16 @@
 use mathlib.Core.Path.{_≡_, refl, sym, ap, _∙_, subst}
 use Prim.Native.Nat.{ℕ, zero, suc, _+_, _*_, _≤_, _<_}
 use native.Mathlib.Omega.{arith}
-use mathlib.Core.Bool.{Bool, _&&_}
+use mathlib.Core.Bool.{_&&_}
 use mathlib.Core.List.{List, [], _∷_}
 use lib.ListN.{length, getD}
-use lib.Dec.{T, eqb, leb, leb→le}
+use lib.Dec.{eqb, leb, leb→le}
 use Rattle.task.specs.Task.{Task}
-use Rattle.certificate.specs.Result.{Result, found}
+use Rattle.certificate.specs.Result.{found}
 use Rattle.certificate.specs.Bytes.{number}
 use Rattle.certificate.specs.File.{ActionSet, StateSet, Step, File}
 use Rattle.certificate.specs.Layout.{items, field, count, mask, action, step, Kind, actionKinds, stateKinds, entry, entries, readTask, readFile}
-use Rattle.certificate.specs.Views.{numberAt, afterEntry, entryPlace, placesOf}
+use Rattle.certificate.specs.Views.{afterEntry, entryPlace, placesOf}
 use Rattle.certificate.specs.Index.{actionIn}
 use Rattle.certificate.proofs.Results.{found-same, bind-case, need-case, and-out}
 use Rattle.certificate.proofs.NumberLaws.{number-at}

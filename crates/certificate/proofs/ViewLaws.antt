@@ -1,22 +1,21 @@
 -- The views of a file that is read are those of what it holds: entries, their items, actions and steps, each at its place.
 -- Assumes nothing.
-use mathlib.Core.Path.{_≡_, refl, sym, ap, _∙_, subst}
-use Prim.Native.Nat.{ℕ, zero, suc, _+_, _-_, _*_, _≤_, _<_}
+use mathlib.Core.Path.{_≡_, refl, sym, ap, subst}
+use Prim.Native.Nat.{ℕ, _+_, _*_, _≤_, _<_}
 use native.Mathlib.Omega.{arith}
-use mathlib.Core.List.{List, [], _∷_}
+use mathlib.Core.List.{List, []}
 use lib.ListN.{length, getD}
-use Rattle.task.specs.Task.{Task, actionAt}
-use Rattle.task.specs.declared.Action.{Action}
+use Rattle.task.specs.Task.{actionAt}
 use Rattle.certificate.specs.declared.Places.{Places}
 use Rattle.certificate.specs.Result.{found}
-use Rattle.certificate.specs.File.{ActionSet, all, StateSet, basic, empty, Step, File, actionSetAt, stateSetAt, stepAt}
+use Rattle.certificate.specs.File.{all, basic, empty, File, actionSetAt, stateSetAt, stepAt}
 use Rattle.certificate.specs.Layout.{readFile}
-use Rattle.certificate.specs.Views.{numberAt, entryPlace, placesOf, viewOfStep}
+use Rattle.certificate.specs.Views.{entryPlace, placesOf, viewOfStep}
 use Rattle.certificate.specs.Index.{actionIn, fieldsAt, fieldsOf, stepOf, capped, Index}
-use Rattle.certificate.proofs.Reading.{Read, file-read}
-use Rattle.certificate.proofs.ItemLaws.{Items, stepRead}
+use Rattle.certificate.proofs.Reading.{file-read}
+use Rattle.certificate.proofs.ItemLaws.{stepRead}
 use Rattle.certificate.proofs.EntryLaws.{StateSetStands, ActionSetStands}
-use Rattle.certificate.proofs.SectionLaws.{Entries, place-le, Parts, file-parts}
+use Rattle.certificate.proofs.SectionLaws.{place-le, Parts, file-parts}
 
 -- the numbers of a file's outline are small, and its places lie within the file, in their order
 pub record PlacesFit (bytes : List ℕ) (at : Places) : Type 0 where

@@ -6,7 +6,6 @@ use mathlib.Core.List.{List, [], _∷_}
 use lib.ListN.{length, getD}
 use Rattle.task.specs.declared.Action.{Action}
 use Rattle.certificate.specs.declared.Clause.{Clause}
-use Rattle.certificate.specs.declared.Span.{Span}
 use Rattle.certificate.specs.declared.Places.{Places}
 use Rattle.certificate.specs.declared.ActionEntry.{ActionEntry}
 use Rattle.certificate.specs.declared.ActionEntry.the-variants.{All, Listed, Either}
@@ -87,7 +86,7 @@ clauseAt bytes p = record { positive = numberAt 8 bytes p; negative = numberAt 8
 
 -- ---- the table of places: action sets at 0 to 255, state sets at 256 to 767
 
--- a place as two bytes hold it. Every place of a file that is read is below 65,536
+-- a place as two bytes hold it. Every entry of a file that is read stands below 65,536
 abbrev pub capped : ℕ → ℕ
 capped p = min p 65535
 
@@ -100,5 +99,6 @@ pub record Indexed (bytes : List ℕ) (p count from : ℕ) (before after : List 
 
 -- the table of a file's entries
 pub record Index (bytes : List ℕ) (at : Places) (index : List ℕ) : Type 0 where
+  pub size : length index ≡ 768
   pub actionSets : (e : ℕ) → e < at .«action_sets» → e < 256 → getD index e 0 ≡ capped (entryPlace bytes (at .«action_sets_at») e)
   pub stateSets : (e : ℕ) → e < at .«state_sets» → e < 512 → getD index (256 + e) 0 ≡ capped (entryPlace bytes (at .«state_sets_at») e)

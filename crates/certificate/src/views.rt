@@ -67,9 +67,18 @@ fn state_of(h: Head) -> StateEntry
     match kind {
         1 => StateEntry::Init,
         2 => StateEntry::Goal,
-        3 => StateEntry::Explicit(Span { at: h.at, count: h.len / 8 }),
-        4 => StateEntry::Horn(Span { at: h.at, count: h.len / 16 }),
-        5 => StateEntry::TwoCnf(Span { at: h.at, count: h.len / 16 }),
+        3 => StateEntry::Explicit(Span {
+            at: h.at,
+            count: h.len / 8,
+        }),
+        4 => StateEntry::Horn(Span {
+            at: h.at,
+            count: h.len / 16,
+        }),
+        5 => StateEntry::TwoCnf(Span {
+            at: h.at,
+            count: h.len / 16,
+        }),
         6 => StateEntry::Complement(h.first),
         7 => StateEntry::Intersection(h.first, h.second),
         8 => StateEntry::Union(h.first, h.second),
@@ -85,7 +94,10 @@ fn actions_of(h: Head) -> ActionEntry
 {
     let kind = h.kind;
     match kind {
-        1 => ActionEntry::Listed(Span { at: h.at, count: h.len / 2 }),
+        1 => ActionEntry::Listed(Span {
+            at: h.at,
+            count: h.len / 2,
+        }),
         2 => ActionEntry::Either(h.first, h.second),
         _ => ActionEntry::All,
     }

@@ -7,7 +7,7 @@ use Rattle.certificate.proofs.views.action_at.Tie as tie
 
 returns : tie.Need-returns
 unfolding actionIn
-returns c = cc
+returns c = λ i. record { pre = c .before .before .u64-at .ensures i; add = c .before .u64-at2 .ensures i; del = c .u64-at3 .ensures i }
 
 pub action-at-spec : {M : Type 1} → statement M
 action-at-spec =

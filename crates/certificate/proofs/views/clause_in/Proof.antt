@@ -7,7 +7,7 @@ use Rattle.certificate.proofs.views.clause_in.Tie as tie
 
 returns : tie.Need-returns
 unfolding clauseAt
-returns c = cc
+returns c = λ i. record { positive = c .before .u64-at .ensures i; negative = c .u64-at2 .ensures i }
 
 pub clause-in-spec : {M : Type 1} → statement M
 clause-in-spec =

@@ -7,8 +7,5 @@ use borrow.Author.Needs.{needs}
 use Rattle.certificate.proofs.views.fields_at.Statement.{statement}
 use Rattle.certificate.proofs.views.fields_at.Tie as tie
 
-returns : tie.Need-returns
-returns c = c .nth-fields .ensures ∙ ap (fieldsAt _) (omega arith)
-
 pub fields-at-spec : {M : Type 1} → statement M
-fields-at-spec = tie.close (tie.spec (λ c κs. search needs) returns)
+fields-at-spec = tie.close (tie.spec (λ c κs. search needs) (λ c. c .nth-fields .ensures ∙ ap (fieldsAt _) (omega arith)))

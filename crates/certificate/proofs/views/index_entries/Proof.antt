@@ -1,12 +1,12 @@
-use borrow.Author.Needs.{needs}
 -- `views::index_entries` meets its contract. The loop's invariant: `at` is the place of entry k, and the table has the places of the k entries before it.
 -- The measure is the number of entries left.
 -- Assumes nothing.
-use mathlib.Core.Path.{_≡_, refl}
+use mathlib.Core.Path.{_≡_, refl, ap, _∙_}
 use Prim.Native.Nat.{_+_, _-_, _*_, _≤_}
 use native.Mathlib.Omega.{arith}
+use borrow.Author.Needs.{needs}
 use Rattle.certificate.specs.Views.{entryPlace}
-use Rattle.certificate.specs.Index.{Indexed}
+use Rattle.certificate.specs.Index.{capped, Indexed}
 use Rattle.certificate.proofs.IndexLaws.{place-more, indexed-none, indexed-more, indexed-full, indexed-all}
 use Rattle.certificate.proofs.views.index_entries.Statement.{statement}
 use Rattle.certificate.proofs.views.index_entries.Tie as tie
@@ -35,7 +35,7 @@ loop-again c =
       omega arith,
       place-more _ _ (g .k) (g .at) _ e (c .u16-at .ensures),
       omega arith,
-      indexed-more _ _ _ _ (g .k) (g .index) (g .inv .3) _ (omega arith) (cc),
+      indexed-more _ _ _ _ (g .k) (g .index) (g .inv .3) _ (omega arith) (c .before .capped-at .ensures ∙ ap capped e),
     )
 
 same-length-2 : tie.Need-same-length-2 Inv-loop μ-loop

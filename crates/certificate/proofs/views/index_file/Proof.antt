@@ -1,3 +1,5 @@
+-- `views::index_file` meets its contract: two fillings of the table, the second of which leaves the first as it is.
+-- Assumes nothing.
 use Rattle.certificate.proofs.IndexLaws.{indexed-file}
 use borrow.Author.Needs.{needs}
 use Rattle.certificate.proofs.views.index_file.Statement.{statement}

@@ -5,9 +5,6 @@ use borrow.Author.Needs.{needs}
 use Rattle.certificate.proofs.views.step_of.Statement.{statement}
 use Rattle.certificate.proofs.views.step_of.Tie as tie
 
-returns : tie.Need-returns
-unfolding stepOf
-returns c = cc
-
 pub step-of-spec : {M : Type 1} → statement M
-step-of-spec = tie.close (tie.spec (λ c κs. search needs) returns)
+unfolding stepOf
+step-of-spec = tie.close (tie.spec (λ c κs. search needs) (λ c i. record { rule = c .before .before .args .fields .rule; judgement = c .before .judgement-of .ensures i; premises = c .before .before .args .fields .premises }))

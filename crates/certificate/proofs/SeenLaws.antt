@@ -1,0 +1,83 @@
+-- From a view back to what a file that is read holds: the entry that the code sees in a case is the file's entry of that kind, and its span holds the items.
+-- Assumes nothing.
+use mathlib.Core.Path.{_≡_, refl, sym, _∙_, subst}
+use Prim.Native.Nat.{ℕ, _+_, _<_}
+use mathlib.Core.List.{List}
+use lib.ListN.{length, getD}
+use Rattle.certificate.specs.declared.Clause.{Clause}
+use Rattle.certificate.specs.declared.Span.{Span}
+use Rattle.certificate.specs.declared.ActionEntry.{ActionEntry}
+use Rattle.certificate.specs.declared.ActionEntry.the-variants.{All, Listed, Either}
+use Rattle.certificate.specs.declared.StateEntry.{StateEntry}
+use Rattle.certificate.specs.declared.StateEntry.the-variants.{Empty, Init, Goal, Explicit, Horn, TwoCnf, Complement, Intersection, Union, Progression, Regression}
+use Rattle.certificate.specs.Result.{found}
+use Rattle.certificate.specs.File.{ActionSet, all, listed, either, Basic, empty, init, goal, explicit, horn, twoCnf, StateSet, basic, complement, intersection, union, progression, regression, File, actionSetAt, stateSetAt}
+use Rattle.certificate.specs.Layout.{readFile}
+use Rattle.certificate.specs.Views.{numberAt, stateEntryAt, actionEntryAt, placesOf, span, viewOfBasic, viewOf, viewOfActions}
+use Rattle.certificate.specs.Index.{clauseAt, Index}
+use Rattle.certificate.proofs.ItemLaws.{Items}
+use Rattle.certificate.proofs.EntryLaws.{BasicItems, StateItems, ActionItems, StateSetStands, ActionSetStands}
+use Rattle.certificate.proofs.ViewLaws.{indexed-state-set, indexed-action-set}
+
+-- the span counts the items, and they stand in it
+pub record Holds {A : Type 0} (bytes : List ℕ) (size : ℕ) (at : ℕ → A) (s : Span) (xs : List A) : Type 0 where
+  pub count : s .count ≡ length xs
+  pub items : Items bytes size at (s .at) xs
+
+module _ (bytes : List ℕ) where
+  -- the state set x is what the view says
+  abbrev pub StateSeen : StateEntry → StateSet → Type 0
+  StateSeen Empty x = x ≡ basic empty
+  StateSeen Init x = x ≡ basic init
+  StateSeen Goal x = x ≡ basic goal
+  StateSeen (Explicit s) x = (ss : List ℕ) × (x ≡ basic (explicit ss)) × Holds bytes 8 (numberAt 8 bytes) s ss
+  StateSeen (Horn s) x = (cs : List Clause) × (x ≡ basic (horn cs)) × Holds bytes 16 (clauseAt bytes) s cs
+  StateSeen (TwoCnf s) x = (cs : List Clause) × (x ≡ basic (twoCnf cs)) × Holds bytes 16 (clauseAt bytes) s cs
+  StateSeen (Complement a) x = x ≡ complement a
+  StateSeen (Intersection a b) x = x ≡ intersection a b
+  StateSeen (Union a b) x = x ≡ union a b
+  StateSeen (Progression a b) x = x ≡ progression a b
+  StateSeen (Regression a b) x = x ≡ regression a b
+
+  abbrev pub ActionsSeen : ActionEntry → ActionSet → Type 0
+  ActionsSeen All x = x ≡ all
+  ActionsSeen (Listed s) x = (is : List ℕ) × (x ≡ listed is) × Holds bytes 2 (numberAt 2 bytes) s is
+  ActionsSeen (Either a b) x = x ≡ either a b
+
+  basic-seen : (p : ℕ) (b : Basic) → BasicItems bytes p b → StateSeen (viewOfBasic p b) (basic b)
+  unfolding viewOfBasic span
+  basic-seen p empty h = refl
+  basic-seen p init h = refl
+  basic-seen p goal h = refl
+  basic-seen p (explicit ss) h = (ss, refl, record { count = refl; items = h })
+  basic-seen p (horn cs) h = (cs, refl, record { count = refl; items = h })
+  basic-seen p (twoCnf cs) h = (cs, refl, record { count = refl; items = h })
+
+  view-seen : (p : ℕ) (x : StateSet) → StateItems bytes p x → StateSeen (viewOf p x) x
+  unfolding viewOf
+  view-seen p (basic b) h = basic-seen p b h
+  view-seen p (complement a) h = refl
+  view-seen p (intersection a b) h = refl
+  view-seen p (union a b) h = refl
+  view-seen p (progression a e) h = refl
+  view-seen p (regression a e) h = refl
+
+  actions-view-seen : (p : ℕ) (x : ActionSet) → ActionItems bytes p x → ActionsSeen (viewOfActions p x) x
+  unfolding viewOfActions span
+  actions-view-seen p all h = refl
+  actions-view-seen p (listed is) h = (is, refl, record { count = refl; items = h })
+  actions-view-seen p (either a b) h = refl
+
+  pub state-seen : (p : ℕ) (x : StateSet) → StateSetStands bytes p x → (v : StateEntry) → v ≡ stateEntryAt bytes p → StateSeen v x
+  state-seen p x s v e = subst (λ w. StateSeen w x) (sym (e ∙ s .view)) (view-seen p x (s .items))
+
+  pub actions-seen : (p : ℕ) (x : ActionSet) → ActionSetStands bytes p x → (v : ActionEntry) → v ≡ actionEntryAt bytes p → ActionsSeen v x
+  actions-seen p x s v e = subst (λ w. ActionsSeen w x) (sym (e ∙ s .view)) (actions-view-seen p x (s .items))
+
+-- what the code reads by the table of places
+module _ (bytes : List ℕ) (f : File) (r : readFile bytes ≡ found f) (index : List ℕ) (t : Index bytes (placesOf bytes f) index) where
+  pub state-set-seen : (e : ℕ) → e < length (f .stateSets) → (v : StateEntry) → v ≡ stateEntryAt bytes (getD index (256 + e) 0) → StateSeen bytes v (stateSetAt f e)
+  state-set-seen e l = state-seen bytes (getD index (256 + e) 0) (stateSetAt f e) (indexed-state-set bytes f r index t e l)
+
+  pub action-set-seen : (e : ℕ) → e < length (f .actionSets) → (v : ActionEntry) → v ≡ actionEntryAt bytes (getD index e 0) → ActionsSeen bytes v (actionSetAt f e)
+  action-set-seen e l = actions-seen bytes (getD index e 0) (actionSetAt f e) (indexed-action-set bytes f r index t e l)

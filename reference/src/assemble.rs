@@ -1,0 +1,287 @@
+//! Reads the text form to a draft. Entries, actions and steps must be numbered in turn;
+//! apart from that any value that fits its field is taken, lawful or not.
+
+use crate::draft::{Draft, DraftActions, DraftSet};
+use crate::file::{Clause, Step};
+use crate::rules;
+use crate::task::Action;
+
+/// The bytes of a text, or what is wrong with it and in which line.
+pub fn assemble(text: &str) -> Result<Vec<u8>, String> {
+    Ok(parse(text)?.encode())
+}
+
+/// The draft of a text.
+pub fn parse(text: &str) -> Result<Draft, String> {
+    let mut draft = Draft::default();
+    for (number, line) in text.lines().enumerate() {
+        let line = line.split('#').next().unwrap_or("");
+        let words = tokens(line);
+        if !words.is_empty() {
+            let mut line = Line { words: &words, at: 0 };
+            line.read(&mut draft).map_err(|why| format!("line {}: {why}", number + 1))?;
+        }
+    }
+    Ok(draft)
+}
+
+/// Words; brackets, braces and signs stand alone, but within parentheses a sign belongs
+/// to the fact after it.
+fn tokens(line: &str) -> Vec<String> {
+    let mut words: Vec<String> = Vec::new();
+    let mut clause = false;
+    let mut open = false;
+    for c in line.chars() {
+        clause = (clause || c == '(') && c != ')';
+        let alone = "{}()[]=&~<".contains(c) || (c == '+' && !clause);
+        if c.is_whitespace() {
+            open = false;
+        } else if alone || !open {
+            words.push(c.to_string());
+            open = !alone;
+        } else if let Some(word) = words.last_mut() {
+            word.push(c);
+        }
+    }
+    words
+}
+
+type Parsed<T> = Result<T, String>;
+
+struct Line<'a> {
+    words: &'a [String],
+    at: usize,
+}
+
+impl<'a> Line<'a> {
+    fn read(&mut self, draft: &mut Draft) -> Parsed<()> {
+        match self.word()? {
+            "version" => draft.version = self.number("version")?,
+            "facts" => draft.facts = self.number("fact count")?,
+            "init" => draft.init = self.mask()?,
+            "goal" => draft.goal = self.mask()?,
+            "action" => {
+                self.in_turn(draft.actions.len())?;
+                draft.actions.push(self.action()?);
+            }
+            "actions" => {
+                self.in_turn(draft.action_sets.len())?;
+                draft.action_sets.push(self.action_set()?);
+            }
+            "set" => {
+                self.in_turn(draft.state_sets.len())?;
+                draft.state_sets.push(self.state_set()?);
+            }
+            "step" => {
+                self.in_turn(draft.steps.len())?;
+                draft.steps.push(self.step()?);
+            }
+            other => return Err(format!("unknown line '{other}'")),
+        }
+        match self.peek() {
+            None => Ok(()),
+            Some(word) => Err(format!("'{word}' is too much")),
+        }
+    }
+
+    fn peek(&self) -> Option<&'a str> {
+        self.words.get(self.at).map(|word| word.as_str())
+    }
+
+    fn word(&mut self) -> Parsed<&'a str> {
+        let word = self.peek().ok_or("the line ends too early")?;
+        self.at += 1;
+        Ok(word)
+    }
+
+    fn expect(&mut self, wanted: &str) -> Parsed<()> {
+        let word = self.word()?;
+        if word == wanted {
+            Ok(())
+        } else {
+            Err(format!("'{wanted}' expected, not '{word}'"))
+        }
+    }
+
+    /// A number that fits its field, decimal or hexadecimal.
+    fn number<T: TryFrom<u64>>(&mut self, what: &str) -> Parsed<T> {
+        let word = self.word()?;
+        let value = match word.strip_prefix("0x") {
+            Some(digits) => u64::from_str_radix(digits, 16),
+            None => word.parse(),
+        };
+        let fitting = value.ok().and_then(|value| T::try_from(value).ok());
+        fitting.ok_or(format!("'{word}' is no {what}"))
+    }
+
+    fn in_turn(&mut self, next: usize) -> Parsed<()> {
+        let number: usize = self.number("number")?;
+        if number == next {
+            Ok(())
+        } else {
+            Err(format!("number {next} is next, not {number}"))
+        }
+    }
+
+    fn fact(&self, word: &str) -> Parsed<u64> {
+        match word.parse::<u32>() {
+            Ok(fact) if fact < 64 => Ok(1 << fact),
+            _ => Err(format!("'{word}' is no fact below 64")),
+        }
+    }
+
+    /// A list of facts in braces, or a number.
+    fn mask(&mut self) -> Parsed<u64> {
+        if self.peek() != Some("{") {
+            return self.number("mask");
+        }
+        self.at += 1;
+        let mut mask = 0;
+        loop {
+            match self.word()? {
+                "}" => return Ok(mask),
+                fact => mask |= self.fact(fact)?,
+            }
+        }
+    }
+
+    fn action(&mut self) -> Parsed<Action> {
+        self.expect("pre")?;
+        let pre = self.mask()?;
+        self.expect("add")?;
+        let add = self.mask()?;
+        self.expect("del")?;
+        Ok(Action { pre, add, del: self.mask()? })
+    }
+
+    /// Numbers up to the end of the line.
+    fn numbers<T: TryFrom<u64>>(&mut self, what: &str) -> Parsed<Vec<T>> {
+        let mut list = Vec::new();
+        while self.peek().is_some() {
+            list.push(self.number(what)?);
+        }
+        Ok(list)
+    }
+
+    fn action_set(&mut self) -> Parsed<DraftActions> {
+        match self.word()? {
+            "all" => Ok(DraftActions::All),
+            "list" => Ok(DraftActions::List(self.numbers("action number")?)),
+            "=" => {
+                let a = self.number("entry number")?;
+                self.expect("+")?;
+                Ok(DraftActions::Union(a, self.number("entry number")?))
+            }
+            other => Err(format!("unknown action set '{other}'")),
+        }
+    }
+
+    fn state_set(&mut self) -> Parsed<DraftSet> {
+        match self.word()? {
+            "empty" => Ok(DraftSet::Empty),
+            "init" => Ok(DraftSet::Init),
+            "goal" => Ok(DraftSet::Goal),
+            "explicit" => Ok(DraftSet::Explicit(self.numbers("state")?)),
+            "horn" => Ok(DraftSet::Horn(self.clauses()?)),
+            "twocnf" => Ok(DraftSet::TwoCnf(self.clauses()?)),
+            "=" => self.compound(),
+            other => Err(format!("unknown state set '{other}'")),
+        }
+    }
+
+    fn clauses(&mut self) -> Parsed<Vec<Clause>> {
+        let mut list = Vec::new();
+        while self.peek().is_some() {
+            self.expect("(")?;
+            let mut clause = Clause::default();
+            loop {
+                let word = self.word()?;
+                if word == ")" {
+                    break;
+                } else if let Some(fact) = word.strip_prefix('+') {
+                    clause.positive |= self.fact(fact)?;
+                } else if let Some(fact) = word.strip_prefix('-') {
+                    clause.negative |= self.fact(fact)?;
+                } else {
+                    return Err(format!("'{word}' is no literal"));
+                }
+            }
+            list.push(clause);
+        }
+        Ok(list)
+    }
+
+    fn compound(&mut self) -> Parsed<DraftSet> {
+        let entry = "entry number";
+        match self.peek() {
+            Some("~") => {
+                self.at += 1;
+                return Ok(DraftSet::Complement(self.number(entry)?));
+            }
+            Some("[") => {
+                self.at += 1;
+                let actions = self.number(entry)?;
+                self.expect("]")?;
+                return Ok(DraftSet::Regression(self.number(entry)?, actions));
+            }
+            _ => (),
+        }
+        let first = self.number(entry)?;
+        let sign = self.word()?;
+        let second = self.number(entry)?;
+        match sign {
+            "&" => Ok(DraftSet::Intersection(first, second)),
+            "+" => Ok(DraftSet::Union(first, second)),
+            "[" => {
+                self.expect("]")?;
+                Ok(DraftSet::Progression(first, second))
+            }
+            other => Err(format!("unknown sign '{other}'")),
+        }
+    }
+
+    fn step(&mut self) -> Parsed<Step> {
+        let name = self.word()?;
+        if name == "raw" {
+            return self.raw_step();
+        }
+        let rule = rules::by_name(name).ok_or(format!("unknown rule '{name}'"))?;
+        let mut step = Step { rule: rule.number, kind: rule.judgement, ..Step::default() };
+        match rule.judgement {
+            0 => {
+                self.expect("dead")?;
+                step.entries[0] = self.number("entry number")?;
+            }
+            1 => self.within(&mut step)?,
+            2 => {
+                self.expect("actions")?;
+                self.within(&mut step)?;
+            }
+            _ => self.expect("unsolvable")?,
+        }
+        if rule.premises > 0 {
+            self.expect("by")?;
+        }
+        for k in 0..rule.premises as usize {
+            step.premises[k] = self.number("step number")?;
+        }
+        Ok(step)
+    }
+
+    fn within(&mut self, step: &mut Step) -> Parsed<()> {
+        step.entries[0] = self.number("entry number")?;
+        self.expect("<")?;
+        step.entries[1] = self.number("entry number")?;
+        Ok(())
+    }
+
+    fn raw_step(&mut self) -> Parsed<Step> {
+        let (rule, kind) = (self.number("rule")?, self.number("judgement kind")?);
+        let mut places = [0; 5];
+        for place in &mut places {
+            *place = self.number("number")?;
+        }
+        let [e, f, p, q, r] = places;
+        Ok(Step { rule, kind, entries: [e, f], premises: [p, q, r] })
+    }
+}

@@ -1,0 +1,59 @@
+//! Truth of statements with a listed set: go through the states of the smallest listed
+//! leaf and look for a counterexample.
+
+use crate::file::{marked_actions, File, StateSet};
+use crate::shape::{is_listed, Bracket, Leaves, Statement};
+use crate::task::{Action, State};
+
+/// Whether the statement holds over all states.
+pub fn holds(file: &File, st: &Statement) -> bool {
+    match st.bracket {
+        Bracket::None => listing(file, &st.left).iter().all(|&s| !outside(file, st, s)),
+        Bracket::Progression(marks) => {
+            let actions = chosen(file, marks);
+            let states = listing(file, &st.inside);
+            let others = more_than_one(&st.inside);
+            let within = |s: &&State| !others || in_all(file, &st.inside, **s);
+            states.iter().filter(within).all(|&s| !leads_outside(file, st, &actions, s))
+        }
+        Bracket::Regression(marks) => {
+            let actions = chosen(file, marks);
+            let leads_in =
+                |s: State| actions.iter().any(|a| a.applies(s) && in_all(file, &st.inside, a.after(s)));
+            listing(file, &st.left).iter().all(|&s| !outside(file, st, s) || !leads_in(s))
+        }
+    }
+}
+
+/// Whether some action leads from the state to a counterexample.
+fn leads_outside(file: &File, st: &Statement, actions: &[Action], state: State) -> bool {
+    actions.iter().any(|a| a.applies(state) && outside(file, st, a.after(state)))
+}
+
+fn chosen(file: &File, marks: crate::file::Marks) -> Vec<Action> {
+    marked_actions(marks).map(|a| file.task.actions[a]).collect()
+}
+
+fn more_than_one(leaves: &Leaves) -> bool {
+    leaves.all().len() > 1
+}
+
+fn in_all(file: &File, leaves: &Leaves, state: State) -> bool {
+    leaves.all().iter().all(|&set| file.base_holds(set, state))
+}
+
+/// Whether the state is in all left leaves and in no right leaf.
+fn outside(file: &File, st: &Statement, state: State) -> bool {
+    in_all(file, &st.left, state) && !st.right.all().iter().any(|&set| file.base_holds(set, state))
+}
+
+/// The states of the smallest leaf of kind 0, 1 or 3; the shape says there is one.
+fn listing<'a>(file: &'a File, leaves: &Leaves) -> &'a [State] {
+    let states = |set: &StateSet| match set {
+        StateSet::Init => std::slice::from_ref(&file.task.init),
+        StateSet::Explicit(span) => span.of(&file.states),
+        _ => &[],
+    };
+    let listed = leaves.all().iter().filter(|set| is_listed(set)).map(states);
+    listed.min_by_key(|list| list.len()).unwrap_or(&[])
+}

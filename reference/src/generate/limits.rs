@@ -1,0 +1,303 @@
+//! Files at and just over the limits of the format, and the four workloads on which
+//! checkers are timed.
+
+use crate::draft::{sample, step, Draft, DraftActions, DraftSet};
+use crate::file::Clause;
+use crate::generate::builder::Builder;
+use crate::generate::certificates::{by_pg, finish, kind};
+use crate::generate::random::Random;
+use crate::layout::{
+    MAX_ACTIONS, MAX_ACTION_SETS, MAX_BYTES, MAX_CLAUSES, MAX_STATES, MAX_STATE_SETS, MAX_STEPS,
+};
+use crate::shape::Method;
+use crate::task::{Action, Task};
+
+/// A file at a limit, or one over it.
+pub fn random(random: &mut Random) -> Vec<u8> {
+    let over = random.below(2);
+    match random.below(13) {
+        0 => many_actions(random, over),
+        1 => many_action_sets(over),
+        2 => many_state_sets(over),
+        3 => many_steps(over),
+        4 => many_states(random, over),
+        5 => many_clauses(over),
+        6 => full_file(over),
+        7 => all_facts(random),
+        8 => deep_tree(random, over),
+        9 => workload(random, 2).encode(),
+        10 => workload(random, 3).encode(),
+        11 => workload(random, 4).encode(),
+        _ => many_listed(over),
+    }
+}
+
+fn many_actions(random: &mut Random, over: usize) -> Vec<u8> {
+    let mut d = sample();
+    while d.actions.len() < MAX_ACTIONS + over {
+        d.actions.push(random.pick(&[d.actions[0], d.actions[1], Action::NOTHING]));
+    }
+    d.encode()
+}
+
+/// A list of as many action numbers as there may be; one more cannot ascend, but its
+/// length is refused first.
+fn many_listed(over: usize) -> Vec<u8> {
+    let mut d = sample();
+    d.actions = vec![d.actions[0]; MAX_ACTIONS];
+    d.action_sets.push(DraftActions::List((0..(MAX_ACTIONS + over) as u16).collect()));
+    d.encode()
+}
+
+/// Each action set is the union of the one before it with itself.
+pub fn many_action_sets(over: usize) -> Vec<u8> {
+    let mut d = sample();
+    while d.action_sets.len() < MAX_ACTION_SETS + over {
+        let last = d.action_sets.len() as u16 - 1;
+        d.action_sets.push(DraftActions::Union(last, last));
+    }
+    let last = d.action_sets.len() as u16 - 1;
+    d.steps.insert(7, step(5, 2, &[last, 0], &[]));
+    d.encode()
+}
+
+/// Each state set is the intersection of the one before it with itself; the last one
+/// is looked into by B1.
+pub fn many_state_sets(over: usize) -> Vec<u8> {
+    let mut d = sample();
+    while d.state_sets.len() < MAX_STATE_SETS + over {
+        let last = d.state_sets.len() as u16 - 1;
+        d.state_sets.push(DraftSet::Intersection(last, last));
+    }
+    let last = d.state_sets.len() as u16 - 1;
+    d.steps.insert(7, step(1, 1, &[last, 3], &[]));
+    d.encode()
+}
+
+fn many_steps(over: usize) -> Vec<u8> {
+    let mut d = sample();
+    while d.steps.len() < MAX_STEPS + over {
+        d.steps.insert(7, step(6, 0, &[0], &[]));
+    }
+    d.encode()
+}
+
+fn many_states(random: &mut Random, over: usize) -> Vec<u8> {
+    let mut d = listed_cube(random, 12, 3);
+    if let (1, DraftSet::Explicit(states)) = (over, &mut d.state_sets[3]) {
+        states.insert(0, 0);
+    }
+    d.encode()
+}
+
+fn many_clauses(over: usize) -> Vec<u8> {
+    let mut d = sample();
+    d.state_sets[3] = DraftSet::Horn(vec![Clause { positive: 0, negative: 3 }; MAX_CLAUSES + over]);
+    d.encode()
+}
+
+/// A file of exactly the greatest length, or one byte more.
+pub fn full_file(over: usize) -> Vec<u8> {
+    let mut d = sample();
+    let mut rest = MAX_BYTES + over - d.encode().len();
+    let clause = Clause { positive: 0, negative: 3 };
+    while rest > 4200 {
+        let count = ((rest - 100) / 16).min(MAX_CLAUSES);
+        d.state_sets.push(DraftSet::Horn(vec![clause; count]));
+        rest -= 3 + 16 * count;
+    }
+    while rest > 24 {
+        d.steps.insert(0, step(6, 0, &[0], &[]));
+        rest -= 12;
+    }
+    let inserted = d.steps.len() as u16 - 8;
+    for old in &mut d.steps[inserted as usize..] {
+        let used = crate::rules::by_number(old.rule).map_or(0, |rule| rule.premises as usize);
+        old.premises[..used].iter_mut().for_each(|p| *p += inserted);
+    }
+    fill(&mut d, rest);
+    d.encode()
+}
+
+/// Adds small entries of 3 and 5 bytes that take up `rest`, which is at least 8.
+fn fill(d: &mut Draft, mut rest: usize) {
+    while rest % 3 != 0 {
+        d.state_sets.push(DraftSet::Complement(0));
+        rest -= 5;
+    }
+    for _ in 0..rest / 3 {
+        d.state_sets.push(DraftSet::Empty);
+    }
+}
+
+/// The sample over 64 facts, with masks that use the highest.
+fn all_facts(random: &mut Random) -> Vec<u8> {
+    let mut d = sample();
+    let high = random.mask(u64::MAX << 2, 1) | 1 << 63;
+    d.facts = 64;
+    d.init |= high;
+    d.goal |= high;
+    d.state_sets[3] = DraftSet::Explicit(vec![high, high | 1, high | 2]);
+    d.encode()
+}
+
+/// A statement with 8 leaves on each side, or 9 on one.
+fn deep_tree(random: &mut Random, over: usize) -> Vec<u8> {
+    let mut d = sample();
+    let mut sides = [3, 3];
+    let nine = random.below(2);
+    for (side, root) in sides.iter_mut().enumerate() {
+        for _ in 0..7 + (over == 1 && nine == side) as usize {
+            let join = if side == 0 { DraftSet::Intersection } else { DraftSet::Union };
+            let pair = if random.chance(50) { (*root, 3) } else { (3, *root) };
+            *root = d.state_sets.len() as u16;
+            d.state_sets.push(join(pair.0, pair.1));
+        }
+    }
+    d.steps.insert(7, step(1, 1, &sides, &[]));
+    d.encode()
+}
+
+/// The timed workloads: 1 many listed states and actions, 2 a large Horn set, 3 a large
+/// two-literal set, 4 many rule steps over many entries. All are accepted.
+pub fn workload(random: &mut Random, number: usize) -> Draft {
+    match number {
+        1 => listed_cube(random, 12, MAX_ACTIONS),
+        2 => large_clauses(random, Method::Horn),
+        3 => large_clauses(random, Method::TwoCnf),
+        _ => many_rules(random),
+    }
+}
+
+/// All states over `free` of 64 facts, the others fixed, in the sample's form.
+fn listed_cube(random: &mut Random, free: usize, actions: usize) -> Draft {
+    let mut cube = 0u64;
+    while cube.count_ones() < free as u32 {
+        cube |= random.bit(!cube);
+    }
+    let fixed = random.mask(!cube, 1);
+    let goal = random.bit(!cube & !fixed) | random.mask(cube, 2);
+    let mut states = vec![fixed];
+    for bit in (0..64).map(|f| 1u64 << f).filter(|bit| cube & bit != 0) {
+        let more: Vec<u64> = states.iter().map(|s| s | bit).collect();
+        states.extend(more);
+    }
+    states.sort_unstable();
+    states.truncate(MAX_STATES);
+    let init = random.pick(&states);
+    let action = |random: &mut Random| {
+        let (pre, add) = (random.mask(cube | fixed, 4), random.mask(cube, 2));
+        Action { pre, add, del: random.mask(cube, 2) }
+    };
+    let actions = (0..actions).map(|_| action(random)).collect();
+    let mut b = Builder::new(Task { facts: 64, init, goal, actions }, random);
+    let s = b.explicit(states);
+    let ending = by_pg(&mut b, s);
+    finish(&mut b, ending);
+    Draft::of(&b.file)
+}
+
+/// Groups of facts whose pairs number 256 in all.
+const GROUPS: [usize; 8] = [9, 9, 9, 9, 9, 11, 7, 1];
+
+/// 256 clauses over 64 facts in groups. Two-literal: at most one fact of a group is on,
+/// and actions move from one fact to another. Horn: a fact of a group is on only with
+/// all lower ones, the last fact of all never, and actions climb and fall.
+fn large_clauses(random: &mut Random, method: Method) -> Draft {
+    let mut facts: Vec<u64> = (0..64).map(|f| 1 << f).collect();
+    shuffle(random, &mut facts);
+    let mut groups = Vec::new();
+    for size in GROUPS {
+        groups.push(facts.drain(..size).collect::<Vec<u64>>());
+    }
+    let two = method == Method::TwoCnf;
+    let pair = |low, high| match two {
+        true => Clause { positive: 0, negative: low | high },
+        false => Clause { positive: low, negative: high },
+    };
+    let pairs = |g: &Vec<u64>| -> Vec<Clause> {
+        (1..g.len()).flat_map(|k| g[..k].iter().map(move |low| pair(*low, g[k]))).collect()
+    };
+    let mut clauses: Vec<Clause> = groups.iter().flat_map(pairs).collect();
+    let (first, single) = (&groups[0], groups[7][0]);
+    let mut task = Task { facts: 64, init: first[0], goal: first[0] | first[1], actions: Vec::new() };
+    if !two {
+        // The highest fact of a group follows from its neighbour anyway.
+        let spare = pair(first[0], first[8]);
+        clauses.retain(|clause| *clause != spare);
+        clauses.push(Clause { positive: 0, negative: single });
+        task.goal = single;
+    }
+    shuffle(random, &mut clauses);
+    for _ in 0..MAX_ACTIONS {
+        let group = random.below(groups.len() - 1);
+        task.actions.push(if two {
+            moving(random, &groups[group])
+        } else {
+            climbing(random, &groups[group])
+        });
+    }
+    let mut b = Builder::new(task, random);
+    let s = b.clauses(kind(method), &clauses);
+    let ending = by_pg(&mut b, s);
+    finish(&mut b, ending);
+    Draft::of(&b.file)
+}
+
+fn shuffle<T>(random: &mut Random, list: &mut [T]) {
+    for k in (1..list.len()).rev() {
+        list.swap(k, random.below(k + 1));
+    }
+}
+
+/// From one fact of the group to another.
+fn moving(random: &mut Random, group: &[u64]) -> Action {
+    let from = random.pick(group);
+    let to = random.pick(group);
+    Action { pre: from, add: to, del: from }
+}
+
+/// From one fact of the group to the next, or down from some fact on.
+fn climbing(random: &mut Random, group: &[u64]) -> Action {
+    let at = random.between(1, group.len() - 1);
+    if random.chance(60) {
+        return Action { pre: group[at - 1], add: group[at], del: 0 };
+    }
+    Action { pre: 0, add: 0, del: group[at..].iter().sum() }
+}
+
+/// The sample's argument, then derivation rules over unions and intersections until
+/// entries and steps are used up.
+fn many_rules(random: &mut Random) -> Draft {
+    let mut d = sample();
+    let ending = d.steps.pop();
+    let clause = DraftSet::Horn(vec![Clause { positive: 0, negative: 3 }]);
+    d.state_sets.push(clause);
+    while d.state_sets.len() + 2 <= MAX_STATE_SETS {
+        let pick = random.pick(&[0, 1, 2, 3]);
+        let last = d.state_sets.len() as u16 - 1;
+        d.state_sets.push(DraftSet::Union(last, pick));
+        d.state_sets.push(DraftSet::Union(pick, last));
+    }
+    let ups: Vec<(u16, u16, u8)> = (0..d.state_sets.len())
+        .filter_map(|e| match d.state_sets[e] {
+            DraftSet::Union(s, _) if s > 6 => Some((s, e as u16, 15)),
+            DraftSet::Union(_, u) if u > 6 => Some((u, e as u16, 16)),
+            _ => None,
+        })
+        .collect();
+    let first = d.steps.len() as u16;
+    d.steps.extend(ups.iter().map(|(s, e, rule)| step(*rule, 1, &[*s, *e], &[])));
+    while d.steps.len() + 1 < MAX_STEPS {
+        let k = random.below(d.steps.len() - first as usize) as u16 + first;
+        let [low, middle] = d.steps[k as usize].entries;
+        let next = ups.iter().position(|(s, _, _)| *s == middle);
+        let premise = next.map_or(first, |p| first + p as u16);
+        let high = d.steps[premise as usize].entries[1];
+        let joined = d.steps[premise as usize].entries[0] == middle;
+        let new = if joined { step(22, 1, &[low, high], &[k, premise]) } else { d.steps[k as usize] };
+        d.steps.push(new);
+    }
+    d.steps.extend(ending);
+    d
+}

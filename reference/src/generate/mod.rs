@@ -1,0 +1,190 @@
+//! Seeded test files and questions: valid, nearly valid and damaged, over every rule,
+//! kind and reply. The same seed gives the same cases on every machine.
+
+pub mod applications;
+pub mod builder;
+pub mod certificates;
+pub mod limits;
+pub mod mutate;
+pub mod random;
+pub mod tasks;
+
+use crate::draft::Draft;
+use crate::generate::builder::Builder;
+use crate::generate::random::Random;
+use crate::{ask, check};
+
+/// A file, with a question (entry and state) or to be checked.
+#[derive(Clone, Debug, PartialEq, Eq)]
+pub struct Case {
+    pub question: Option<(u64, u64)>,
+    pub bytes: Vec<u8>,
+}
+
+impl Case {
+    /// The line form: `check HEX` or `ask ENTRY STATE HEX`.
+    pub fn line(&self) -> String {
+        let hex: String = self.bytes.iter().map(|byte| format!("{byte:02x}")).collect();
+        match self.question {
+            None => format!("check {hex}"),
+            Some((entry, state)) => format!("ask {entry} {state} {hex}"),
+        }
+    }
+
+    /// Reads the line form; none where it is not of that form.
+    pub fn parse(line: &str) -> Option<Case> {
+        let mut words = line.split_whitespace();
+        let question = match words.next()? {
+            "check" => None,
+            "ask" => Some((words.next()?.parse().ok()?, words.next()?.parse().ok()?)),
+            _ => return None,
+        };
+        let bytes = from_hex(words.next().unwrap_or(""))?;
+        words.next().is_none().then_some(Case { question, bytes })
+    }
+
+    /// The reply as the command line prints it.
+    pub fn reply(&self) -> String {
+        match self.question {
+            None => check(&self.bytes).to_string(),
+            Some((entry, state)) => ask(&self.bytes, entry, state).to_string(),
+        }
+    }
+}
+
+fn from_hex(text: &str) -> Option<Vec<u8>> {
+    let digit = |byte: u8| (byte as char).to_digit(16);
+    let pairs = text.as_bytes().chunks(2);
+    pairs.map(|pair| Some((digit(pair[0])? * 16 + digit(*pair.get(1)?)?) as u8)).collect()
+}
+
+/// The first `count` cases of a seed.
+pub fn cases(seed: u64, count: u64) -> impl Iterator<Item = Case> {
+    (0..count).map(move |index| case(&mut Random::for_case(seed, index)))
+}
+
+fn case(random: &mut Random) -> Case {
+    let bytes = match random.below(200) {
+        0..=45 => certificate(random).encode(),
+        46..=79 => near_application(random),
+        80..=127 => {
+            let mut draft = certificate(random);
+            mutate::draft(random, &mut draft);
+            draft.encode()
+        }
+        128..=147 => {
+            let draft = certificate(random);
+            mutate::bytes(random, &draft)
+        }
+        148..=169 => statement(random),
+        170..=195 => return question(random),
+        196 => (0..random.below(300)).map(|_| random.next() as u8).collect(),
+        197 | 198 => limits::random(random),
+        _ => return question_at_limit(random),
+    };
+    Case { question: None, bytes }
+}
+
+/// A certificate with some further rule applications and true statements.
+fn certificate(random: &mut Random) -> Draft {
+    let (mut b, ending) = certificates::random(random);
+    for _ in 0..b.random.below(3) {
+        applications::add_pool(&mut b);
+    }
+    for _ in 0..b.random.below(10) {
+        let rule = b.random.pick(&RULES_TO_APPLY);
+        applications::apply(&mut b, rule);
+    }
+    let statements = b.random.below(4);
+    applications::add_true_statements(&mut b, statements);
+    certificates::finish(&mut b, ending);
+    Draft::of(&b.file)
+}
+
+/// All derivation rules but CI and CG, which end a file.
+const RULES_TO_APPLY: [u8; 21] =
+    [6, 7, 8, 9, 10, 11, 12, 15, 16, 17, 18, 19, 20, 21, 22, 23, 24, 25, 26, 27, 28];
+
+/// A certificate with one application in which a letter may have slipped.
+fn near_application(random: &mut Random) -> Vec<u8> {
+    let (mut b, mut ending) = certificates::random(random);
+    applications::add_pool(&mut b);
+    let helper = b.random.pick(&RULES_TO_APPLY);
+    applications::apply(&mut b, helper);
+    // Rules with more places to slip come more often.
+    let places = RULES_TO_APPLY.iter().flat_map(|rule| vec![*rule; 3 + applications::places(*rule)]);
+    let rule = b.random.pick(&places.collect::<Vec<u8>>());
+    applications::apply_nearly(&mut b, rule);
+    match b.random.below(20) {
+        0 => ending.0 = 27 - ending.0,
+        1 => ending.1 = b.random.below(b.file.steps.len()) as u16,
+        2..=4 => spoil_last(&mut b),
+        _ => (),
+    }
+    certificates::finish(&mut b, ending);
+    Draft::of(&b.file).encode()
+}
+
+/// Makes a field of the last step unlawful (reply 8).
+fn spoil_last(b: &mut Builder) {
+    let sets = b.file.state_sets.len() as u16;
+    let number = b.file.steps.len() as u16 - 1;
+    let Some(step) = b.file.steps.last_mut() else { return };
+    match b.random.below(4) {
+        0 => step.kind = (step.kind + 1) % 4,
+        1 => step.premises[2] = number.max(1),
+        2 => step.entries[0] = sets,
+        _ => step.entries[1] = sets,
+    }
+}
+
+/// A file whose last step but one is any basic statement.
+fn statement(random: &mut Random) -> Vec<u8> {
+    let (mut b, ending) = certificates::random(random);
+    applications::add_pool(&mut b);
+    applications::add_pool(&mut b);
+    let (rule, judgement) = applications::basic(&mut b);
+    b.step(rule, judgement, &[]);
+    certificates::finish(&mut b, ending);
+    Draft::of(&b.file).encode()
+}
+
+fn question(random: &mut Random) -> Case {
+    let (mut b, ending) = certificates::random(random);
+    applications::add_pool(&mut b);
+    let compounds = b.random.below(8);
+    applications::add_compounds(&mut b, compounds);
+    certificates::finish(&mut b, ending);
+    let asked = ask_something(&mut b);
+    let mut draft = Draft::of(&b.file);
+    if random.chance(10) {
+        mutate::draft(random, &mut draft);
+    }
+    Case { question: Some(asked), bytes: draft.encode() }
+}
+
+/// An entry and a state, now and then outside of what there is.
+fn ask_something(b: &mut Builder) -> (u64, u64) {
+    let sets = b.file.state_sets.len();
+    let entry = match b.random.below(30) {
+        0 => sets,
+        1 => 65_536 + b.random.below(sets),
+        _ => b.random.between(sets.saturating_sub(8), sets - 1),
+    };
+    let facts = b.file.task.all_facts();
+    let state = match b.random.below(20) {
+        0 => facts.wrapping_add(1),
+        1 => b.random.next(),
+        _ => b.random.mask(facts, 1),
+    };
+    (entry as u64, state)
+}
+
+fn question_at_limit(random: &mut Random) -> Case {
+    let bytes = match random.below(3) {
+        0 => limits::many_state_sets(0),
+        1 => limits::many_action_sets(0),
+        _ => limits::full_file(0),
+    };
+    Case { question: Some((random.below(20) as u64, random.below(4) as u64)), bytes }
+}

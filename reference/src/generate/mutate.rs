@@ -1,0 +1,288 @@
+//! Damage: one field of a draft changed, or the bytes of a file cut, extended or
+//! overwritten.
+
+use crate::draft::{mend_length, Draft, DraftActions, DraftSet};
+use crate::file::{Clause, Step};
+use crate::generate::random::Random;
+
+/// Changes one thing in the draft.
+pub fn draft(random: &mut Random, d: &mut Draft) {
+    match random.below(26) {
+        0..=8 => step(random, d),
+        9 | 10 => step_list(random, d),
+        11..=13 => reference(random, d),
+        14 | 15 => kind(random, d),
+        16..=18 => content(random, d),
+        19 => action_set(random, d),
+        20 => twin(random, d),
+        21 | 22 => mask(random, d),
+        _ => head(random, d),
+    }
+}
+
+/// One place of a step; rare rules are as likely as frequent ones.
+fn step(random: &mut Random, d: &mut Draft) {
+    let mut rules: Vec<u8> = d.steps.iter().map(|step| step.rule).collect();
+    rules.sort_unstable();
+    rules.dedup();
+    if rules.is_empty() {
+        return;
+    }
+    let rule = random.pick(&rules);
+    let Some(at) = choose(random, &d.steps, |step| step.rule == rule) else { return };
+    let sets = d.state_sets.len();
+    let s = &mut d.steps[at];
+    match random.below(14) {
+        0..=3 => s.premises[random.below(3)] = random.below(at + 2) as u16,
+        4..=6 => s.entries[random.below(2)] = random.below(sets + 1) as u16,
+        11 => s.premises[random.below(3)] = at as u16,
+        12 => s.entries[1] = sets as u16,
+        7 => s.premises.swap(0, 1),
+        8 => s.entries.swap(0, 1),
+        9 => s.rule = random.between(0, 29) as u8,
+        10 => s.kind = random.between(0, 4) as u8,
+        _ => relabel(random, s),
+    }
+}
+
+/// Another rule with the same number of premises and judgement kind.
+fn relabel(random: &mut Random, s: &mut Step) {
+    let Some(old) = crate::rules::by_number(s.rule) else { return };
+    let alike = |rule: &&crate::rules::Rule| {
+        rule.premises == old.premises && rule.judgement == old.judgement && rule.number != s.rule
+    };
+    let alike: Vec<u8> = crate::rules::RULES.iter().filter(alike).map(|r| r.number).collect();
+    if !alike.is_empty() {
+        s.rule = random.pick(&alike);
+    }
+}
+
+/// A step dropped, doubled or put elsewhere.
+fn step_list(random: &mut Random, d: &mut Draft) {
+    if d.steps.is_empty() {
+        return;
+    }
+    let (at, to) = (random.below(d.steps.len()), random.below(d.steps.len()));
+    match random.below(5) {
+        0 | 1 => drop(d.steps.pop()),
+        2 => drop(d.steps.remove(at)),
+        3 => d.steps.insert(to, d.steps[at]),
+        _ => d.steps.swap(at, to),
+    }
+}
+
+/// A reference of a compound entry: another one, too high, or both turned about.
+fn reference(random: &mut Random, d: &mut Draft) {
+    let compound = |set: &DraftSet| {
+        use DraftSet::*;
+        matches!(set, Complement(_) | Intersection(..) | Union(..) | Progression(..) | Regression(..))
+    };
+    let Some(at) = choose(random, &d.state_sets, compound) else { return };
+    let any = if random.chance(20) { at + random.below(3) } else { random.below(at) } as u16;
+    let action_sets = d.action_sets.len();
+    use DraftSet::*;
+    match &mut d.state_sets[at] {
+        Intersection(s, u) | Union(s, u) => match random.below(3) {
+            0 => std::mem::swap(s, u),
+            1 => *s = any,
+            _ => *u = any,
+        },
+        Progression(s, a) | Regression(s, a) => {
+            if random.chance(50) {
+                *s = any;
+            } else {
+                *a = random.below(action_sets + 1) as u16;
+            }
+        }
+        Complement(s) => *s = any,
+        _ => (),
+    }
+}
+
+fn choose<T>(random: &mut Random, list: &[T], wanted: impl Fn(&T) -> bool) -> Option<usize> {
+    let places: Vec<usize> = (0..list.len()).filter(|k| wanted(&list[*k])).collect();
+    (!places.is_empty()).then(|| random.pick(&places))
+}
+
+/// Another kind over the same content.
+fn kind(random: &mut Random, d: &mut Draft) {
+    if d.state_sets.is_empty() {
+        return;
+    }
+    use DraftSet::*;
+    let at = random.below(d.state_sets.len());
+    let new = match d.state_sets[at].clone() {
+        Empty | Init | Goal | Explicit(_) => constant(random),
+        Horn(clauses) => TwoCnf(clauses),
+        TwoCnf(clauses) => Horn(clauses),
+        Complement(s) => Intersection(s, s),
+        Intersection(s, u) | Union(s, u) if random.chance(20) => random_pair(random, s, u),
+        Intersection(s, u) => Union(s, u),
+        Union(s, u) => Intersection(s, u),
+        Progression(s, a) => Regression(s, a),
+        Regression(s, a) => Progression(s, a),
+    };
+    d.state_sets[at] = new;
+}
+
+fn constant(random: &mut Random) -> DraftSet {
+    match random.below(3) {
+        0 => DraftSet::Empty,
+        1 => DraftSet::Init,
+        _ => DraftSet::Goal,
+    }
+}
+
+fn random_pair(random: &mut Random, s: u16, u: u16) -> DraftSet {
+    match random.below(3) {
+        0 => DraftSet::Complement(s),
+        1 => DraftSet::Progression(s, u),
+        _ => DraftSet::Regression(u, s),
+    }
+}
+
+/// A state or clause dropped, doubled, changed or put elsewhere.
+fn content(random: &mut Random, d: &mut Draft) {
+    let listed =
+        |set: &DraftSet| matches!(set, DraftSet::Explicit(_) | DraftSet::Horn(_) | DraftSet::TwoCnf(_));
+    let bit = 1u64 << random.below(d.facts as usize + 1).min(63);
+    let Some(at) = choose(random, &d.state_sets, listed) else { return };
+    match &mut d.state_sets[at] {
+        DraftSet::Explicit(states) => items(random, states, |s| *s ^= bit, bit),
+        DraftSet::Horn(clauses) | DraftSet::TwoCnf(clauses) => {
+            let on_positive = random.chance(50);
+            let flip = |c: &mut Clause| {
+                *(if on_positive { &mut c.positive } else { &mut c.negative }) ^= bit;
+            };
+            items(random, clauses, flip, Clause::default());
+        }
+        _ => (),
+    }
+}
+
+fn items<T: Copy>(random: &mut Random, list: &mut Vec<T>, change: impl Fn(&mut T), new: T) {
+    if list.is_empty() {
+        list.push(new);
+        return;
+    }
+    let (at, to) = (random.below(list.len()), random.below(list.len()));
+    match random.below(6) {
+        0 => drop(list.remove(at)),
+        1 => list.insert(at, list[at]),
+        2 => list.swap(at, to),
+        3 => list.push(new),
+        _ => change(&mut list[at]),
+    }
+}
+
+fn action_set(random: &mut Random, d: &mut Draft) {
+    if d.action_sets.is_empty() {
+        return;
+    }
+    let at = random.below(d.action_sets.len());
+    let actions = d.actions.len();
+    match &mut d.action_sets[at] {
+        DraftActions::Union(a, b) => {
+            if random.chance(50) {
+                std::mem::swap(a, b);
+            } else {
+                *a = random.below(at + 2) as u16;
+            }
+        }
+        DraftActions::List(list) => items(random, list, |a| *a = a.wrapping_add(1), actions as u16),
+        all => *all = DraftActions::List((0..actions as u16).collect()),
+    }
+}
+
+/// A second entry of equal content, named in one place instead of the first.
+fn twin(random: &mut Random, d: &mut Draft) {
+    if d.state_sets.is_empty() || d.steps.is_empty() {
+        return;
+    }
+    let first = random.below(d.state_sets.len());
+    let number = d.state_sets.len() as u16;
+    d.state_sets.push(d.state_sets[first].clone());
+    let named = |step: &Step| step.kind < 2 && step.entries.contains(&(first as u16));
+    if let Some(at) = choose(random, &d.steps, named) {
+        let entries = &mut d.steps[at].entries;
+        let place = entries.iter().position(|entry| *entry == first as u16);
+        entries[place.unwrap_or(0)] = number;
+    }
+}
+
+fn mask(random: &mut Random, d: &mut Draft) {
+    let bit = 1u64 << random.below(d.facts as usize + 1).min(63);
+    let actions = d.actions.len();
+    match random.below(5) {
+        0 => d.init ^= bit,
+        1 => d.goal ^= bit,
+        _ if actions == 0 => (),
+        _ => {
+            let action = &mut d.actions[random.below(actions)];
+            match random.below(3) {
+                0 => action.pre ^= bit,
+                1 => action.add ^= bit,
+                _ => action.del ^= bit,
+            }
+        }
+    }
+}
+
+fn head(random: &mut Random, d: &mut Draft) {
+    match random.below(9) {
+        0 | 8 => d.version = random.pick(&[0, 2, 255]),
+        1 => d.facts = random.pick(&[0, 65, 255]),
+        2 => d.facts = d.facts.wrapping_sub(1),
+        3 => d.facts = (d.facts + 1).min(64),
+        4 => drop(d.actions.pop()),
+        5 => d.steps.clear(),
+        6 => drop(d.state_sets.pop()),
+        _ => drop(d.action_sets.pop()),
+    }
+}
+
+/// The places and widths of counts, entry lengths and entry kinds in the draft's bytes.
+fn frame(d: &Draft, bytes: &[u8]) -> Vec<(usize, usize)> {
+    let mut places = vec![(22, 2)];
+    let mut at = 24 + 24 * d.actions.len();
+    for count in [d.action_sets.len(), d.state_sets.len()] {
+        places.push((at, 2));
+        at += 2;
+        for _ in 0..count {
+            let Some(&[high, low, _]) = bytes.get(at..at + 3) else { return places };
+            places.extend([(at, 2), (at + 2, 1)]);
+            at += 2 + u16::from_be_bytes([high, low]) as usize;
+        }
+    }
+    places.push((at, 2));
+    places
+}
+
+/// Cuts, extends or overwrites; the length field is mended in most cases.
+pub fn bytes(random: &mut Random, d: &Draft) -> Vec<u8> {
+    let mut bytes = d.encode();
+    let length = bytes.len();
+    match random.below(8) {
+        0 | 1 => bytes.truncate(random.below(length)),
+        2 => bytes.extend((0..random.between(1, 14)).map(|k| k as u8)),
+        3 => {
+            let at = random.below(length);
+            bytes[at] = random.next() as u8;
+        }
+        4 => {
+            let at = random.below(length);
+            let count = random.between(1, 3).min(length - at);
+            bytes.drain(at..at + count);
+        }
+        _ => {
+            let (at, width) = random.pick(&frame(d, &bytes));
+            if let Some(low) = bytes.get_mut(at + width - 1) {
+                *low = low.wrapping_add(random.pick(&[1, 255, 2, 8, 16]));
+            }
+        }
+    }
+    if random.chance(90) {
+        mend_length(&mut bytes);
+    }
+    bytes
+}

@@ -1,0 +1,301 @@
+//! Reads the bytes of a file front to back and finds the faults of its layout,
+//! replies 1 to 7. At each item: past the end (3), then range (2, 4), then 5, 6, 7.
+
+use crate::fault::{Fault, Group, Item};
+use crate::file::{mark, ActionSet, ActionSetKind, Clause, File, Span, StateSet, Step};
+use crate::task::Action;
+
+pub const MAX_BYTES: usize = 65_536;
+pub const MAX_ACTIONS: usize = 256;
+pub const MAX_ACTION_SETS: usize = 256;
+pub const MAX_STATE_SETS: usize = 512;
+pub const MAX_STEPS: usize = 2_048;
+pub const MAX_STATES: usize = 4_096;
+pub const MAX_CLAUSES: usize = 256;
+
+type Read<T> = Result<T, Fault>;
+
+/// The body of an entry: its bytes and where they begin in the file.
+#[derive(Clone, Copy)]
+struct Body<'a> {
+    bytes: &'a [u8],
+    place: usize,
+    entry: u16,
+}
+
+struct Reader<'a> {
+    bytes: &'a [u8],
+    at: usize,
+    file: File,
+    /// The mask of the facts that no mask or state may name.
+    barred: u64,
+}
+
+/// Decodes a file, or gives the first fault of its layout.
+pub fn read(bytes: &[u8]) -> Read<File> {
+    let wrong_length = || Fault::layout(1, 0, Item::Whole);
+    if bytes.len() < 4 || bytes.len() > MAX_BYTES {
+        return Err(wrong_length());
+    }
+    let stated = u32::from_be_bytes([bytes[0], bytes[1], bytes[2], bytes[3]]);
+    if stated as usize != bytes.len() - 4 {
+        return Err(wrong_length());
+    }
+    let mut reader = Reader { bytes, at: 4, file: File::default(), barred: 0 };
+    reader.task()?;
+    reader.action_sets()?;
+    reader.state_sets()?;
+    reader.steps()?;
+    if reader.at < bytes.len() {
+        return Err(Fault::layout(3, reader.at, Item::Rest));
+    }
+    Ok(reader.file)
+}
+
+impl<'a> Reader<'a> {
+    /// The next `length` bytes, or 3 at their first.
+    fn take(&mut self, length: usize, item: Item) -> Read<&'a [u8]> {
+        match self.bytes.get(self.at..self.at + length) {
+            Some(part) => {
+                self.at += length;
+                Ok(part)
+            }
+            None => Err(Fault::layout(3, self.at, item)),
+        }
+    }
+
+    fn byte(&mut self, item: Item) -> Read<u8> {
+        Ok(self.take(1, item)?[0])
+    }
+
+    /// A count of two bytes between `least` and `most`.
+    fn count(&mut self, name: &'static str, least: usize, most: usize) -> Read<usize> {
+        let place = self.at;
+        let count = number(self.take(2, Item::Field(name))?) as usize;
+        if count < least || count > most {
+            return Err(Fault::layout(4, place, Item::Field(name)));
+        }
+        Ok(count)
+    }
+
+    /// A mask or state of eight bytes that names no fact of n or above.
+    fn mask(&mut self, item: Item) -> Read<u64> {
+        let place = self.at;
+        let mask = word(self.take(8, item)?);
+        if mask & self.barred != 0 {
+            return Err(Fault::layout(5, place, item));
+        }
+        Ok(mask)
+    }
+
+    fn task(&mut self) -> Read<()> {
+        if self.byte(Item::Field("version"))? != 1 {
+            return Err(Fault::layout(2, 4, Item::Field("version")));
+        }
+        let facts = self.byte(Item::Field("fact count"))?;
+        if facts == 0 || facts > 64 {
+            return Err(Fault::layout(4, 5, Item::Field("fact count")));
+        }
+        self.file.task.facts = facts;
+        self.barred = !self.file.task.all_facts();
+        self.file.task.init = self.mask(Item::Field("init"))?;
+        self.file.task.goal = self.mask(Item::Field("goal"))?;
+        let count = self.count("action count", 0, MAX_ACTIONS)?;
+        for a in 0..count as u16 {
+            let pre = self.mask(Item::Mask(a, "pre"))?;
+            let add = self.mask(Item::Mask(a, "add"))?;
+            let del = self.mask(Item::Mask(a, "del"))?;
+            self.file.task.actions.push(Action { pre, add, del });
+        }
+        Ok(())
+    }
+
+    /// An entry's kind and body; the kind is below `kinds` and the length fits it.
+    fn entry(
+        &mut self,
+        group: Group,
+        entry: u16,
+        kinds: u8,
+        fits: fn(u8, usize) -> bool,
+    ) -> Read<(u8, Body<'a>)> {
+        let place = self.at;
+        let past_end = Fault::layout(3, place, Item::Entry(group, entry));
+        let length = number(self.take(2, Item::Entry(group, entry))?) as usize;
+        let rest = self.take(length, Item::Entry(group, entry)).map_err(|_| past_end)?;
+        let unfit = Fault::layout(4, place, Item::EntryLength(group, entry));
+        let (&kind, bytes) = rest.split_first().ok_or(unfit)?;
+        if kind >= kinds {
+            return Err(Fault::layout(4, place + 2, Item::EntryKind(group, entry)));
+        }
+        if !fits(kind, bytes.len()) {
+            return Err(unfit);
+        }
+        Ok((kind, Body { bytes, place: place + 3, entry }))
+    }
+
+    fn action_sets(&mut self) -> Read<()> {
+        let count = self.count("action set count", 0, MAX_ACTION_SETS)?;
+        for e in 0..count as u16 {
+            let (kind, body) = self.entry(Group::ActionSet, e, 3, action_set_fits)?;
+            let set = match kind {
+                0 => ActionSet { kind: ActionSetKind::All, marks: self.file.all_marks() },
+                1 => self.action_list(body)?,
+                _ => self.action_union(body)?,
+            };
+            self.file.action_sets.push(set);
+        }
+        Ok(())
+    }
+
+    fn action_list(&self, body: Body) -> Read<ActionSet> {
+        let mut marks = [0; 4];
+        let mut above = 0;
+        for (k, bytes) in body.bytes.chunks_exact(2).enumerate() {
+            let action = number(bytes) as usize;
+            let part = Item::Part(Group::ActionSet, body.entry, "action", k as u16);
+            if action >= self.file.task.actions.len() {
+                return Err(Fault::layout(6, body.place + 2 * k, part));
+            }
+            if action < above {
+                return Err(Fault::layout(7, body.place + 2 * k, part));
+            }
+            above = action + 1;
+            mark(&mut marks, action);
+        }
+        Ok(ActionSet { kind: ActionSetKind::List, marks })
+    }
+
+    fn action_union(&self, body: Body) -> Read<ActionSet> {
+        let a = reference(body, Group::ActionSet, 0, body.entry as usize)?;
+        let b = reference(body, Group::ActionSet, 1, body.entry as usize)?;
+        Ok(ActionSet { kind: ActionSetKind::Union(a, b), marks: self.file.union_marks(a, b) })
+    }
+
+    fn state_sets(&mut self) -> Read<()> {
+        let count = self.count("state set count", 0, MAX_STATE_SETS)?;
+        for e in 0..count as u16 {
+            let (kind, body) = self.entry(Group::StateSet, e, 11, state_set_fits)?;
+            let set = match kind {
+                0 => StateSet::Empty,
+                1 => StateSet::Init,
+                2 => StateSet::Goal,
+                3 => StateSet::Explicit(self.explicit(body)?),
+                4 => StateSet::Horn(self.clauses(body, Clause::is_horn)?),
+                5 => StateSet::TwoCnf(self.clauses(body, Clause::is_two_literal)?),
+                _ => self.compound(kind, body)?,
+            };
+            self.file.state_sets.push(set);
+        }
+        Ok(())
+    }
+
+    fn explicit(&mut self, body: Body) -> Read<Span> {
+        let from = self.file.states.len();
+        for (k, bytes) in body.bytes.chunks_exact(8).enumerate() {
+            let state = word(bytes);
+            let broken = if state & self.barred != 0 {
+                5
+            } else if k > 0 && self.file.states[from + k - 1] >= state {
+                7
+            } else {
+                self.file.states.push(state);
+                continue;
+            };
+            let part = Item::Part(Group::StateSet, body.entry, "state", k as u16);
+            return Err(Fault::layout(broken, body.place + 8 * k, part));
+        }
+        Ok(Span { from: from as u32, to: self.file.states.len() as u32 })
+    }
+
+    fn clauses(&mut self, body: Body, lawful: fn(&Clause) -> bool) -> Read<Span> {
+        let from = self.file.clauses.len() as u32;
+        for (k, bytes) in body.bytes.chunks_exact(16).enumerate() {
+            let clause = Clause { positive: word(&bytes[..8]), negative: word(&bytes[8..]) };
+            let (broken, offset) = if clause.positive & self.barred != 0 {
+                (5, 0)
+            } else if clause.negative & self.barred != 0 {
+                (5, 8)
+            } else if !lawful(&clause) {
+                (7, 0)
+            } else {
+                self.file.clauses.push(clause);
+                continue;
+            };
+            let part = Item::Part(Group::StateSet, body.entry, "clause", k as u16);
+            return Err(Fault::layout(broken, body.place + 16 * k + offset, part));
+        }
+        Ok(Span { from, to: self.file.clauses.len() as u32 })
+    }
+
+    fn compound(&self, kind: u8, body: Body) -> Read<StateSet> {
+        let a = reference(body, Group::StateSet, 0, body.entry as usize)?;
+        if kind == 6 {
+            return Ok(StateSet::Complement(a));
+        }
+        let above = if kind < 9 { body.entry as usize } else { self.file.action_sets.len() };
+        let b = reference(body, Group::StateSet, 1, above)?;
+        Ok(match kind {
+            7 => StateSet::Intersection(a, b),
+            8 => StateSet::Union(a, b),
+            9 => StateSet::Progression(a, b),
+            _ => StateSet::Regression(a, b),
+        })
+    }
+
+    fn steps(&mut self) -> Read<()> {
+        let count = self.count("step count", 1, MAX_STEPS)?;
+        self.file.steps.reserve(count.min((self.bytes.len() - self.at) / 12));
+        for s in 0..count as u16 {
+            let b = self.take(12, Item::Step(s))?;
+            self.file.steps.push(Step {
+                rule: b[0],
+                kind: b[1],
+                entries: [number(&b[2..4]), number(&b[4..6])],
+                premises: [number(&b[6..8]), number(&b[8..10]), number(&b[10..12])],
+            });
+        }
+        Ok(())
+    }
+}
+
+/// The k-th reference of a body, which must be below `above`.
+fn reference(body: Body, group: Group, k: usize, above: usize) -> Read<u16> {
+    let to = number(&body.bytes[2 * k..2 * k + 2]);
+    if to as usize >= above {
+        let part = Item::Part(group, body.entry, "reference", k as u16);
+        return Err(Fault::layout(6, body.place + 2 * k, part));
+    }
+    Ok(to)
+}
+
+/// Whether a body of this many bytes fits an action set kind.
+fn action_set_fits(kind: u8, length: usize) -> bool {
+    match kind {
+        0 => length == 0,
+        1 => length % 2 == 0 && length / 2 <= MAX_ACTIONS,
+        _ => length == 4,
+    }
+}
+
+/// Whether a body of this many bytes fits a state set kind.
+fn state_set_fits(kind: u8, length: usize) -> bool {
+    match kind {
+        0..=2 => length == 0,
+        3 => length % 8 == 0 && length / 8 <= MAX_STATES,
+        4 | 5 => length % 16 == 0 && length / 16 <= MAX_CLAUSES,
+        6 => length == 2,
+        _ => length == 4,
+    }
+}
+
+#[inline]
+fn number(bytes: &[u8]) -> u16 {
+    u16::from_be_bytes([bytes[0], bytes[1]])
+}
+
+#[inline]
+fn word(bytes: &[u8]) -> u64 {
+    let mut eight = [0; 8];
+    eight.copy_from_slice(&bytes[..8]);
+    u64::from_be_bytes(eight)
+}

@@ -1,0 +1,77 @@
+//! An independent checker of unsolvability certificates for planning tasks, written
+//! from document 01 alone. It decides the same replies as the proved checker by its own
+//! algorithms, so that a disagreement between the two means something.
+
+pub mod assemble;
+pub mod clauses;
+pub mod derivation;
+pub mod draft;
+pub mod explicit;
+pub mod fault;
+pub mod file;
+pub mod generate;
+pub mod layout;
+pub mod pattern;
+pub mod question;
+pub mod rules;
+pub mod shape;
+pub mod show;
+pub mod steps;
+pub mod task;
+pub mod words;
+
+use std::fmt;
+
+/// What the checker returns.
+#[derive(Clone, Copy, Debug, PartialEq, Eq, Hash)]
+pub enum Reply {
+    Accepted,
+    Refused { number: u8, place: u32 },
+}
+
+/// What the question returns.
+#[derive(Clone, Copy, Debug, PartialEq, Eq, Hash)]
+pub enum Answer {
+    In,
+    Out,
+    Refused { number: u8, place: u32 },
+}
+
+/// Checks a file: task and certificate together.
+pub fn check(bytes: &[u8]) -> Reply {
+    match layout::read(bytes).and_then(|file| steps::check(&file)) {
+        Ok(()) => Reply::Accepted,
+        Err(fault) => Reply::Refused { number: fault.number, place: fault.place },
+    }
+}
+
+/// Asks whether a state is in a state set of the file.
+pub fn ask(bytes: &[u8], entry: u64, state: u64) -> Answer {
+    match layout::read(bytes) {
+        Err(fault) => Answer::Refused { number: fault.number, place: fault.place },
+        Ok(file) => match question::answer(&file, entry, state) {
+            None => Answer::Refused { number: 13, place: 0 },
+            Some(true) => Answer::In,
+            Some(false) => Answer::Out,
+        },
+    }
+}
+
+impl fmt::Display for Reply {
+    fn fmt(&self, f: &mut fmt::Formatter) -> fmt::Result {
+        match self {
+            Reply::Accepted => f.write_str("accepted"),
+            Reply::Refused { number, place } => write!(f, "refused {number} {place}"),
+        }
+    }
+}
+
+impl fmt::Display for Answer {
+    fn fmt(&self, f: &mut fmt::Formatter) -> fmt::Result {
+        match self {
+            Answer::In => f.write_str("in"),
+            Answer::Out => f.write_str("out"),
+            Answer::Refused { number, place } => write!(f, "refused {number} {place}"),
+        }
+    }
+}

@@ -1,0 +1,103 @@
+//! The command line: check and ask, seeded cases and their replies, and the text form.
+
+use std::io::{self, BufRead, BufWriter, Read, Write};
+use std::process::ExitCode;
+
+use reference::generate::limits::workload;
+use reference::generate::random::Random;
+use reference::generate::{cases, Case};
+use reference::{ask, assemble, check, show};
+
+const USAGE: &str = "usage: reference check FILE | ask FILE ENTRY STATE | gen SEED COUNT | replies | \
+assemble TEXTFILE | show FILE | workload NUMBER SEED   (FILE may be - for standard input)";
+
+/// What stops a command: a wrong call, or a message.
+enum Stop {
+    Usage,
+    Message(String),
+}
+
+impl From<io::Error> for Stop {
+    fn from(error: io::Error) -> Stop {
+        Stop::Message(error.to_string())
+    }
+}
+
+fn main() -> ExitCode {
+    let arguments: Vec<String> =
+        std::env::args_os().skip(1).map(|a| a.to_string_lossy().into_owned()).collect();
+    let words: Vec<&str> = arguments.iter().map(|a| a.as_str()).collect();
+    match run(&words) {
+        Ok(()) => ExitCode::SUCCESS,
+        Err(Stop::Usage) => {
+            eprintln!("{USAGE}");
+            ExitCode::from(2)
+        }
+        Err(Stop::Message(message)) => {
+            eprintln!("reference: {message}");
+            ExitCode::FAILURE
+        }
+    }
+}
+
+fn run(words: &[&str]) -> Result<(), Stop> {
+    let mut out = BufWriter::new(io::stdout().lock());
+    match words {
+        ["check", file] => writeln!(out, "{}", check(&read(file)?))?,
+        ["ask", file, entry, state] => {
+            let (entry, state) = (number(entry)?, number(state)?);
+            writeln!(out, "{}", ask(&read(file)?, entry, state))?;
+        }
+        ["gen", seed, count] => {
+            for case in cases(number(seed)?, number(count)?) {
+                writeln!(out, "{}", case.line())?;
+            }
+        }
+        ["replies"] => replies(&mut out)?,
+        ["assemble", file] => {
+            let text = String::from_utf8(read(file)?);
+            let text = text.map_err(|_| Stop::Message("the text is not UTF-8".into()))?;
+            out.write_all(&assemble::assemble(&text).map_err(Stop::Message)?)?;
+        }
+        ["show", file] => out.write_all(show::show(&read(file)?).as_bytes())?,
+        ["workload", which, seed] => {
+            let which = number(which)?;
+            if !(1..=4).contains(&which) {
+                return Err(Stop::Usage);
+            }
+            let draft = workload(&mut Random::new(number(seed)?), which as usize);
+            out.write_all(&draft.encode())?;
+        }
+        _ => return Err(Stop::Usage),
+    }
+    out.flush()?;
+    Ok(())
+}
+
+/// A number, decimal or hexadecimal.
+fn number(word: &str) -> Result<u64, Stop> {
+    let value = match word.strip_prefix("0x") {
+        Some(digits) => u64::from_str_radix(digits, 16),
+        None => word.parse(),
+    };
+    value.map_err(|_| Stop::Usage)
+}
+
+fn read(file: &str) -> Result<Vec<u8>, Stop> {
+    if file == "-" {
+        let mut bytes = Vec::new();
+        io::stdin().lock().read_to_end(&mut bytes)?;
+        return Ok(bytes);
+    }
+    std::fs::read(file).map_err(|error| Stop::Message(format!("{file}: {error}")))
+}
+
+/// One reply a line for the cases on standard input.
+fn replies(out: &mut impl Write) -> Result<(), Stop> {
+    for (number, line) in io::stdin().lock().lines().enumerate() {
+        let case = Case::parse(&line?);
+        let case = case.ok_or(Stop::Message(format!("line {}: no case", number + 1)))?;
+        writeln!(out, "{}", case.reply())?;
+    }
+    Ok(())
+}

@@ -1,0 +1,84 @@
+//! The command line: what it prints and how it ends.
+
+use std::io::Write;
+use std::path::PathBuf;
+use std::process::{Command, Output, Stdio};
+
+fn run(arguments: &[&str], input: &[u8]) -> Output {
+    let mut child = Command::new(env!("CARGO_BIN_EXE_reference"))
+        .args(arguments)
+        .stdin(Stdio::piped())
+        .stdout(Stdio::piped())
+        .stderr(Stdio::piped())
+        .spawn()
+        .expect("the program starts");
+    // The program may end without reading its input.
+    let _ = child.stdin.take().expect("an input").write_all(input);
+    child.wait_with_output().expect("the program ends")
+}
+
+fn printed(arguments: &[&str], input: &[u8]) -> String {
+    let output = run(arguments, input);
+    assert!(output.status.success(), "{arguments:?}: {output:?}");
+    String::from_utf8(output.stdout).expect("text")
+}
+
+fn sample(name: &str) -> String {
+    let folder = PathBuf::from(env!("CARGO_MANIFEST_DIR")).join("../samples");
+    folder.join(name).to_string_lossy().into_owned()
+}
+
+#[test]
+fn check_and_ask() {
+    let cert = sample("sample.cert");
+    assert_eq!(printed(&["check", &cert], b""), "accepted\n");
+    assert_eq!(printed(&["check", "-"], b""), "refused 1 0\n");
+    assert_eq!(printed(&["ask", &cert, "3", "2"], b""), "in\n");
+    assert_eq!(printed(&["ask", &cert, "3", "0x3"], b""), "out\n");
+    assert_eq!(printed(&["ask", &cert, "4", "0"], b""), "refused 13 0\n");
+}
+
+#[test]
+fn both_text_forms() {
+    let bytes = std::fs::read(sample("sample.cert")).expect("the sample");
+    assert_eq!(run(&["assemble", &sample("sample.txt")], b"").stdout, bytes);
+    let shown = printed(&["show", &sample("sample.cert")], b"");
+    assert!(shown.contains("\nstep 4 PG dead 3 by 1 0 3  # rule 9: S[T]<S+U, U dead, S&G dead; S dead\n"));
+    assert_eq!(run(&["assemble", "-"], shown.as_bytes()).stdout, bytes);
+}
+
+#[test]
+fn cases_and_their_replies() {
+    assert_eq!(printed(&["gen", "0", "0"], b""), "");
+    let lines = printed(&["gen", "4", "60"], b"");
+    assert_eq!(lines.lines().count(), 60);
+    let replies = printed(&["replies"], lines.as_bytes());
+    assert_eq!(replies.lines().count(), 60);
+    let form = |reply: &str| ["accepted", "in", "out"].contains(&reply) || reply.starts_with("refused ");
+    assert!(replies.lines().all(form), "{replies}");
+    assert_eq!(printed(&["replies"], b"check \nask 0 0 00\n"), "refused 1 0\nrefused 1 0\n");
+    assert_eq!(run(&["replies"], b"nonsense\n").status.code(), Some(1));
+}
+
+#[test]
+fn wrong_calls_print_the_usage_and_end_with_2() {
+    let cert = sample("sample.cert");
+    let wrong: [&[&str]; 9] = [
+        &[],
+        &["check"],
+        &["check", &cert, "more"],
+        &["ask", &cert, "x", "0"],
+        &["ask", &cert, "-1", "0"],
+        &["gen", "1"],
+        &["gen", "1", "many"],
+        &["workload", "5", "1"],
+        &["unknown"],
+    ];
+    for arguments in wrong {
+        let output = run(arguments, b"");
+        assert_eq!(output.status.code(), Some(2), "{arguments:?}");
+        assert!(output.stdout.is_empty() && output.stderr.starts_with(b"usage: "), "{arguments:?}");
+    }
+    let missing = run(&["check", "no-such-file"], b"");
+    assert_eq!(missing.status.code(), Some(1));
+}

@@ -1,0 +1,168 @@
+//! Files at the limits, files that would blow up a naive checker, and the workloads.
+
+use std::time::{Duration, Instant};
+
+use reference::draft::{sample, step, Draft, DraftActions, DraftSet};
+use reference::file::Clause;
+use reference::generate::limits::{full_file, many_action_sets, many_state_sets, workload};
+use reference::generate::random::Random;
+use reference::task::Action;
+use reference::{ask, check};
+
+fn reply(draft: &Draft) -> String {
+    check(&draft.encode()).to_string()
+}
+
+#[test]
+fn counts_at_and_over_their_limits() {
+    let actions = |count| {
+        let mut d = sample();
+        d.actions = vec![Action { pre: 0, add: 1, del: 2 }; count];
+        reply(&d)
+    };
+    assert_eq!((actions(256), actions(257)), ("accepted".into(), "refused 4 22".into()));
+    assert_eq!(actions(0), "accepted");
+    let sets = |count| {
+        let mut d = sample();
+        d.state_sets.resize(count, DraftSet::Empty);
+        reply(&d)
+    };
+    assert_eq!((sets(512), sets(513)), ("accepted".into(), "refused 4 77".into()));
+    let action_sets = |count| {
+        let mut d = sample();
+        d.action_sets.resize(count, DraftActions::List(vec![1]));
+        reply(&d)
+    };
+    assert_eq!((action_sets(256), action_sets(257)), ("accepted".into(), "refused 4 72".into()));
+    let steps = |count: usize| {
+        let mut d = sample();
+        let last = d.steps.pop();
+        d.steps.resize(count - 1, step(6, 0, &[0], &[]));
+        d.steps.extend(last);
+        reply(&d)
+    };
+    assert_eq!((steps(2048), steps(2049)), ("accepted".into(), "refused 4 136".into()));
+}
+
+#[test]
+fn bodies_at_and_over_their_limits() {
+    let states = |count: u64| {
+        let mut d = sample();
+        d.facts = 13;
+        d.state_sets.push(DraftSet::Explicit((0..count).collect()));
+        reply(&d)
+    };
+    assert_eq!((states(4096), states(4097)), ("accepted".into(), "refused 4 136".into()));
+    let clauses = |count| {
+        let mut d = sample();
+        d.state_sets.push(DraftSet::TwoCnf(vec![Clause::default(); count]));
+        reply(&d)
+    };
+    assert_eq!((clauses(256), clauses(257)), ("accepted".into(), "refused 4 136".into()));
+    let listed = |count: u16| {
+        let mut d = sample();
+        d.actions = vec![Action { pre: 0, add: 1, del: 2 }; 256];
+        d.action_sets.push(DraftActions::List((0..count).collect()));
+        reply(&d)
+    };
+    let place = 24 + 256 * 24 + 2 + 3;
+    assert_eq!((listed(256), listed(257)), ("accepted".into(), format!("refused 4 {place}")));
+}
+
+#[test]
+fn the_greatest_length() {
+    let (full, over) = (full_file(0), full_file(1));
+    assert_eq!((full.len(), over.len()), (65_536, 65_537));
+    assert_eq!(check(&full).to_string(), "accepted");
+    assert_eq!(check(&over).to_string(), "refused 1 0");
+}
+
+#[test]
+fn sixty_four_facts() {
+    let mut d = sample();
+    d.facts = 64;
+    d.init = u64::MAX << 2;
+    d.goal = u64::MAX;
+    let high = d.init;
+    d.state_sets[3] = DraftSet::Explicit(vec![high, high | 1, high | 2]);
+    assert_eq!(reply(&d), "accepted");
+    assert_eq!(ask(&d.encode(), 3, high | 2).to_string(), "in");
+    assert_eq!(ask(&d.encode(), 3, u64::MAX).to_string(), "out");
+    d.state_sets[3] = DraftSet::Horn(vec![Clause { positive: 0, negative: 3 }]);
+    assert_eq!(reply(&d), "accepted");
+    d.state_sets[3] = DraftSet::Horn(vec![Clause { positive: 0, negative: 1 << 63 | 1 }]);
+    assert_eq!(reply(&d), "refused 11 1");
+    d.facts = 63;
+    assert_eq!(reply(&d), "refused 5 6");
+}
+
+#[test]
+fn eight_leaves_a_side() {
+    let replies: Vec<String> = [8, 9].map(|count| chain(count, 1)).into_iter().collect();
+    assert_eq!(replies, ["accepted", "refused 10 7"]);
+    let replies: Vec<String> = [8, 9].map(|count| chain(1, count)).into_iter().collect();
+    assert_eq!(replies, ["accepted", "refused 10 7"]);
+    // Inside the bracket counts with the left; the progression itself does not.
+    let replies: Vec<String> = [(4, 4), (4, 5), (1, 7), (1, 8), (0, 8), (0, 9)].map(bracketed).into();
+    let (yes, no) = ("accepted", "refused 10 7");
+    assert_eq!(replies, [yes, no, yes, no, yes, no]);
+}
+
+/// Adds a tree of `count` leaves, each entry 3, to the draft.
+fn tree(d: &mut Draft, first: u16, count: usize, join: fn(u16, u16) -> DraftSet) -> u16 {
+    (1..count).fold(first, |root, _| {
+        d.state_sets.push(join(root, 3));
+        d.state_sets.len() as u16 - 1
+    })
+}
+
+fn chain(left: usize, right: usize) -> String {
+    let mut d = sample();
+    let left = tree(&mut d, 3, left, DraftSet::Intersection);
+    let right = tree(&mut d, 3, right, DraftSet::Union);
+    d.steps.insert(7, step(1, 1, &[left, right], &[]));
+    reply(&d)
+}
+
+fn bracketed((outside, inside): (usize, usize)) -> String {
+    let mut d = sample();
+    let inside = tree(&mut d, 3, inside, DraftSet::Intersection);
+    d.state_sets.push(DraftSet::Progression(inside, 0));
+    let led = d.state_sets.len() as u16 - 1;
+    let left = tree(&mut d, led, outside + 1, DraftSet::Intersection);
+    d.steps.insert(7, step(2, 1, &[left, 3], &[]));
+    reply(&d)
+}
+
+/// Naive recursion over these would take longer than anyone waits.
+#[test]
+fn doubling_entries_are_answered_at_once() {
+    let start = Instant::now();
+    assert_eq!(check(&many_action_sets(0)).to_string(), "accepted");
+    assert_eq!(check(&many_state_sets(0)).to_string(), "refused 10 7");
+    assert_eq!(ask(&many_state_sets(0), 511, 0).to_string(), "refused 13 0");
+    let mut d = sample();
+    while d.state_sets.len() < 512 {
+        let last = d.state_sets.len() as u16 - 1;
+        d.state_sets.push(DraftSet::Union(last, last));
+    }
+    d.steps.insert(7, step(1, 1, &[3, 511], &[]));
+    assert_eq!(reply(&d), "refused 10 7");
+    assert!(start.elapsed() < Duration::from_millis(500), "{:?}", start.elapsed());
+}
+
+#[test]
+fn workloads_are_accepted() {
+    for number in 1..=4 {
+        let draft = workload(&mut Random::new(7), number);
+        let bytes = draft.encode();
+        let start = Instant::now();
+        assert_eq!(check(&bytes).to_string(), "accepted", "workload {number}");
+        assert!(start.elapsed() < Duration::from_secs(5), "workload {number}: {:?}", start.elapsed());
+        match number {
+            1 => assert_eq!(draft.actions.len(), 256),
+            2 | 3 => assert!(draft.facts == 64 && draft.actions.len() == 256),
+            _ => assert_eq!((draft.steps.len(), draft.state_sets.len()), (2048, 512)),
+        }
+    }
+}
