@@ -8,3 +8,11 @@ pub mod Moved
 pub mod Reduced
 pub mod Filled
 pub mod LeafKinds
+pub mod MarkLaws
+pub mod ActionLaws
+pub mod RuleTruth
+pub mod SearchLaws
+pub mod ListedLaws
+pub mod ShownLaws
+pub mod EntryActions
+pub mod WalkLaws

@@ -27,7 +27,7 @@ and-iff a b = ((λ p. and-both a b (p .0) (p .1)), (λ t. (and-left a b t, and-r
 pub or-iff : (a b : Bool) → (T a ⊎ T b) ↔ T (a || b)
 or-iff a b = ((λ p. elim p [ inl s ↦ or-left a b s | inr s ↦ or-right a b s ]), or-cases a b)
 
-implies-of : (a b : Bool) → (T a → T b) → T (not a || b)
+pub implies-of : (a b : Bool) → (T a → T b) → T (not a || b)
 implies-of a b h = elim (excluded a) [ inl t ↦ or-right (not a) b (h t) | inr n ↦ or-left (not a) b n ]
 
 -- ---- one action

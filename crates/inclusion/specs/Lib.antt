@@ -4,6 +4,8 @@ pub mod Statements
 pub mod Counter
 pub mod Clauses
 pub mod Listed
+pub mod Search
 pub mod Flat
+pub mod Marks
 pub mod Verdict
 pub mod Gathered

@@ -1,0 +1,13 @@
+-- `inclusion::listed::meets` meets its contract.
+-- Assumes nothing.
+use borrow.Author.Needs.{needs}
+use Rattle.inclusion.specs.Meaning.{meets}
+use Rattle.inclusion.proofs.listed.meets.Statement.{statement}
+use Rattle.inclusion.proofs.listed.meets.Tie as tie
+
+returns : tie.Need-returns
+unfolding meets
+returns c = cc
+
+pub meets-spec : {M : Type 1} → statement M
+meets-spec = tie.close (tie.spec (λ c κs. search needs) returns)

@@ -1,0 +1,36 @@
+-- `inclusion::listed::shown` meets its contract.
+-- Assumes nothing.
+use Rattle.inclusion.proofs.ShownLaws.{shown-none, shown-one, shown-some}
+use borrow.Author.Needs.{needs}
+use Rattle.inclusion.proofs.listed.shown.Statement.{statement}
+use Rattle.inclusion.proofs.listed.shown.Tie as tie
+
+returns : tie.Need-returns
+returns c = shown-one _ _ _ _ _ _ _ _ _ (c .before .before .before .spared .ensures) (c .before .match .keys1) (c .shows-in .ensures)
+
+returns-2 : tie.Need-returns-2
+returns-2 c =
+    shown-some _ _ _ _ _ _ _ _ _ (c .before .before .before .before .before .spared .ensures) (c .before .before .before .match .keys2) (c .one-shows .ensures)
+
+returns-3 : tie.Need-returns-3
+returns-3 c = shown-none _ _ _ _ _ _ _ _ _ (c .match .rest .0 .1) (c .match .rest .1)
+
+pub shown-spec : {M : Type 1} → statement M
+shown-spec =
+    tie.close
+    (tie.spec
+    (λ c κs. search needs)
+    (λ c. search needs)
+    (λ c. search needs)
+    (λ c. search needs)
+    (λ c κs. search needs)
+    (λ c. search needs)
+    (λ c. search needs)
+    (λ c. search needs)
+    (λ c. search needs)
+    (λ c. search needs)
+    (λ c. search needs)
+    (λ c κs. search needs)
+    returns
+    returns-2
+    returns-3)

@@ -1,0 +1,235 @@
+// Statements over listed states: whether an action in a listed state makes a statement untrue.
+use certificate::bytes::u64_at;
+use task::Action;
+use task::after;
+use task::all_on;
+use task::applies;
+ghost use mathlib.Core.Path.{_≡_};
+ghost use mathlib.Core.Logic.{_↔_};
+ghost use Prim.Native.Nat.{_+_, _*_, _≤_};
+ghost use mathlib.Core.Bool.{not, _||_};
+ghost use lib.ListN.{length};
+ghost use lib.Dec.{T, eqb};
+ghost use Rattle.task.specs.Reach.{member};
+ghost use Rattle.certificate.specs.Views.{numberAt};
+ghost use Rattle.certificate.specs.Writing.{Ascending};
+ghost use Rattle.inclusion.specs.Meaning.{allBelow, someBelow, meets};
+ghost use Rattle.inclusion.specs.Clauses.{clauseAt};
+ghost use Rattle.inclusion.specs.Listed.{statesAt, leafHolds, AscendingAt, Shows};
+ghost use Rattle.inclusion.specs.Search.{holdsAt, showsIn, spared, Readable, Ready};
+
+// Whether a state is among `count` ascending states from a place.
+fn among(file: &[u8], at: u32, count: u32, s: u64) -> bool
+    requires { ⌜ Ascending 0 (statesAt (now file) at count) ⌝ }
+    ensures { λ b. ⌜ b ≡ member s (statesAt (now (file .entry)) at count) ⌝ }
+{
+    let first = at as usize;
+    let mut lo: usize = 0;
+    let mut hi = count as usize;
+    while lo < hi {
+        let mid = lo + ((hi - lo) >> 1);
+        let x = u64_at(file, first + 8 * mid);
+        if x == s {
+            return true;
+        }
+        if x < s {
+            lo = mid + 1;
+        } else {
+            hi = mid;
+        }
+    }
+    false
+}
+
+// Whether a state meets a clause.
+fn meets(s: u64, positive: u64, negative: u64) -> bool
+    ensures { λ b. ⌜ b ≡ meets s (record { positive = positive; negative = negative }) ⌝ }
+{
+    (s & positive != 0) | !all_on(negative, s)
+}
+
+// Whether a state meets each of `count` clauses from a place: a leaf of kind 4 or 5.
+fn meets_all(file: &[u8], at: u32, count: u32, s: u64) -> bool
+    ensures { λ b. ⌜ b ≡ allBelow count (λ i. meets s (clauseAt (now (file .entry)) 0 0 4 at i)) ⌝ }
+{
+    let first = at as usize;
+    let clauses = count as usize;
+    let mut i: usize = 0;
+    while i < clauses {
+        let place = first + 16 * i;
+        if !meets(s, u64_at(file, place), u64_at(file, place + 8)) {
+            return false;
+        }
+        i += 1;
+    }
+    true
+}
+
+// Whether a leaf of kinds 0 to 5 holds a state.
+pub fn leaf_holds(file: &[u8], init: u64, goal: u64, kind: u32, at: u32, count: u32, s: u64) -> bool
+    requires { ⌜ (T (eqb kind 3) → Ascending 0 (statesAt (now file) at count)) ⌝ }
+    ensures { λ b. ⌜ b ≡ leafHolds (now (file .entry)) init goal kind at count s ⌝ }
+{
+    match kind {
+        0 => false,
+        1 => s == init,
+        2 => all_on(goal, s),
+        3 => among(file, at, count, s),
+        _ => meets_all(file, at, count, s),
+    }
+}
+
+// Whether leaf j of a flat array holds s, or t where it is asked about the state after the action.
+fn holds_at(file: &[u8], init: u64, goal: u64, leaves: &[u32], j: usize, s: u64, t: u64) -> bool
+    requires { ⌜ 4 * j + 4 ≤ length (now leaves) ⌝ }
+    requires { ⌜ AscendingAt (now file) init goal (now leaves) j ⌝ }
+    ensures { λ b. ⌜ b ≡ holdsAt (now (file .entry)) init goal s t (now (leaves .entry)) j ⌝ }
+{
+    let i = 4 * j;
+    let x = if leaves[i + 3] == 1 { t } else { s };
+    leaf_holds(file, init, goal, leaves[i], leaves[i + 1], leaves[i + 2], x)
+}
+
+// Whether each of m leaves holds, where leaf `but` is not asked.
+fn all_hold(
+    file: &[u8],
+    init: u64,
+    goal: u64,
+    leaves: &[u32],
+    m: usize,
+    but: usize,
+    s: u64,
+    t: u64,
+) -> bool
+    requires { ⌜ Readable (now file) init goal (now leaves) m ⌝ }
+    ensures { λ b. ⌜ b ≡ allBelow m (λ j. eqb j but || holdsAt (now (file .entry)) init goal s t (now (leaves .entry)) j) ⌝ }
+{
+    let mut j: usize = 0;
+    while j < m {
+        if j != but {
+            if !holds_at(file, init, goal, leaves, j, s, t) {
+                return false;
+            }
+        }
+        j += 1;
+    }
+    true
+}
+
+// Whether none of r leaves holds.
+fn none_holds(file: &[u8], init: u64, goal: u64, leaves: &[u32], r: usize, s: u64, t: u64) -> bool
+    requires { ⌜ Readable (now file) init goal (now leaves) r ⌝ }
+    ensures { λ b. ⌜ b ≡ allBelow r (λ j. not (holdsAt (now (file .entry)) init goal s t (now (leaves .entry)) j)) ⌝ }
+{
+    let mut j: usize = 0;
+    while j < r {
+        if holds_at(file, init, goal, leaves, j, s, t) {
+            return false;
+        }
+        j += 1;
+    }
+    true
+}
+
+// Whether a state makes the statement untrue: the action applies there, all left leaves hold and no right one does.
+fn shows_in(
+    file: &[u8],
+    init: u64,
+    goal: u64,
+    left: &[u32],
+    m: usize,
+    right: &[u32],
+    r: usize,
+    but: usize,
+    a: Action,
+    s: u64,
+) -> bool
+    requires { ⌜ Readable (now file) init goal (now left) m ⌝ }
+    requires { ⌜ Readable (now file) init goal (now right) r ⌝ }
+    ensures { λ b. ⌜ b ≡ showsIn (now (file .entry)) init goal a (now (left .entry)) m (now (right .entry)) r but s ⌝ }
+{
+    if !applies(a, s) {
+        return false;
+    }
+    let t = after(a, s);
+    if !all_hold(file, init, goal, left, m, but, s, t) {
+        return false;
+    }
+    none_holds(file, init, goal, right, r, s, t)
+}
+
+// Whether one of `count` states from a place does.
+fn one_shows(
+    file: &[u8],
+    init: u64,
+    goal: u64,
+    left: &[u32],
+    m: usize,
+    right: &[u32],
+    r: usize,
+    but: usize,
+    a: Action,
+    at: u32,
+    count: u32,
+) -> bool
+    requires { ⌜ Readable (now file) init goal (now left) m ⌝ }
+    requires { ⌜ Readable (now file) init goal (now right) r ⌝ }
+    ensures { λ b. ⌜ b ≡ someBelow count (λ i. showsIn (now (file .entry)) init goal a (now (left .entry)) m (now (right .entry)) r but (numberAt 8 (now (file .entry)) (at + 8 * i))) ⌝ }
+{
+    let first = at as usize;
+    let states = count as usize;
+    let mut i: usize = 0;
+    while i < states {
+        let s = u64_at(file, first + 8 * i);
+        if shows_in(file, init, goal, left, m, right, r, but, a, s) {
+            return true;
+        }
+        i += 1;
+    }
+    false
+}
+
+// The left leaf that need not be asked: the anchor, unless it is asked about the state after the action.
+fn spared(left: &[u32], m: usize, anchor: usize) -> usize
+    requires { ⌜ 4 * anchor + 4 ≤ length (now left) ⌝ }
+    ensures { λ i. ⌜ i ≡ spared (now (left .entry)) m anchor ⌝ }
+{
+    if left[4 * anchor + 3] == 1 { m } else { anchor }
+}
+
+// Whether an action in a state of the anchor, a left leaf of listed states, makes the statement untrue.
+pub fn shown(
+    file: &[u8],
+    init: u64,
+    goal: u64,
+    left: &[u32],
+    m: usize,
+    right: &[u32],
+    r: usize,
+    anchor: usize,
+    a: Action,
+) -> bool
+    requires { ⌜ Ready (now file) init goal (now left) m (now right) r anchor ⌝ }
+    ensures { λ b. ⌜ (T b ↔ Shows (now (file .entry)) init goal a (now (left .entry)) m (now (right .entry)) r anchor) ⌝ }
+{
+    let but = spared(left, m, anchor);
+    let i = 4 * anchor;
+    let kind = left[i];
+    match kind {
+        1 => shows_in(file, init, goal, left, m, right, r, but, a, init),
+        3 => one_shows(
+            file,
+            init,
+            goal,
+            left,
+            m,
+            right,
+            r,
+            but,
+            a,
+            left[i + 1],
+            left[i + 2],
+        ),
+        _ => false,
+    }
+}
