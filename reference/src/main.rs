@@ -1,6 +1,6 @@
 //! The command line: check and ask, seeded cases and their replies, and the text form.
 
-use std::io::{self, BufRead, BufWriter, Read, Write};
+use std::io::{self, BufWriter, Read, Write};
 use std::process::ExitCode;
 
 use reference::generate::limits::workload;
@@ -8,7 +8,7 @@ use reference::generate::random::Random;
 use reference::generate::{cases, Case};
 use reference::{ask, assemble, check, show};
 
-const USAGE: &str = "usage: reference check FILE | ask FILE ENTRY STATE | gen SEED COUNT | replies | \
+const USAGE: &str = "usage: reference check FILE | ask FILE ENTRY STATE | gen SEED COUNT | replies | pack | \
 assemble TEXTFILE | show FILE | workload NUMBER SEED   (FILE may be - for standard input)";
 
 /// What stops a command: a wrong call, or a message.
@@ -53,7 +53,16 @@ fn run(words: &[&str]) -> Result<(), Stop> {
                 writeln!(out, "{}", case.line())?;
             }
         }
-        ["replies"] => replies(&mut out)?,
+        ["replies"] => {
+            for case in lines() {
+                writeln!(out, "{}", case?.reply())?;
+            }
+        }
+        ["pack"] => {
+            for case in lines() {
+                out.write_all(&case?.record())?;
+            }
+        }
         ["assemble", file] => {
             let text = String::from_utf8(read(file)?);
             let text = text.map_err(|_| Stop::Message("the text is not UTF-8".into()))?;
@@ -92,12 +101,10 @@ fn read(file: &str) -> Result<Vec<u8>, Stop> {
     std::fs::read(file).map_err(|error| Stop::Message(format!("{file}: {error}")))
 }
 
-/// One reply a line for the cases on standard input.
-fn replies(out: &mut impl Write) -> Result<(), Stop> {
-    for (number, line) in io::stdin().lock().lines().enumerate() {
+/// The cases on standard input, one a line.
+fn lines() -> impl Iterator<Item = Result<Case, Stop>> {
+    io::stdin().lines().enumerate().map(|(number, line)| {
         let case = Case::parse(&line?);
-        let case = case.ok_or(Stop::Message(format!("line {}: no case", number + 1)))?;
-        writeln!(out, "{}", case.reply())?;
-    }
-    Ok(())
+        case.ok_or(Stop::Message(format!("line {}: no case", number + 1)))
+    })
 }

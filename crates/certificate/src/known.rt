@@ -1,11 +1,11 @@
 // Entries, steps and actions of a file whose layout was checked, each as the file that was read has it.
-use crate::views;
-use crate::views::action_at;
-use crate::views::fields_at;
-use crate::views::Fields;
 use crate::ActionEntry;
 use crate::Places;
 use crate::StateEntry;
+use crate::views;
+use crate::views::Fields;
+use crate::views::action_at;
+use crate::views::fields_at;
 use task::Action;
 ghost use mathlib.Core.Path.{_≡_};
 ghost use Prim.Native.Nat.{_<_};

@@ -35,16 +35,17 @@ fn first_marks(n: u16) -> [u64; 4]
 fn with_listed(file: &[u8], span: Span, words: [u64; 4]) -> [u64; 4]
     ensures { λ r. ⌜ Marks r (λ j. marked words j || listedIn (now (file .entry)) (span .at) (span .count) j) ⌝ }
 {
-    let count = span.count;
+    let mut left = span.count;
     let mut more = words;
     let mut i = 0u16;
-    while i < count {
+    while 0 < left {
         let x = action_in(file, span, i);
         if x < 256 {
             let next = with_mark(more, x);
             more = next;
         }
         i += 1;
+        left -= 1;
     }
     more
 }

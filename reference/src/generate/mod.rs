@@ -43,6 +43,19 @@ impl Case {
         words.next().is_none().then_some(Case { question, bytes })
     }
 
+    /// The record form, for programs that read no text: 0 or 1 for a question (1 byte), entry (8), state (8),
+    /// the file's length (4), all big-endian, and the file, of which no more than 65,537 bytes are kept.
+    pub fn record(&self) -> Vec<u8> {
+        let (entry, state) = self.question.unwrap_or((0, 0));
+        let bytes = &self.bytes[..self.bytes.len().min(65_537)];
+        let mut record = vec![self.question.is_some() as u8];
+        record.extend(entry.to_be_bytes());
+        record.extend(state.to_be_bytes());
+        record.extend((bytes.len() as u32).to_be_bytes());
+        record.extend(bytes);
+        record
+    }
+
     /// The reply as the command line prints it.
     pub fn reply(&self) -> String {
         match self.question {
