@@ -1,7 +1,7 @@
 -- Numbers put together from their bytes.
 -- Assumes nothing.
 use mathlib.Core.Path.{_≡_, refl, sym, ap, _∙_}
-use Prim.Native.Nat.{ℕ, zero, suc, _+_, _-_, _*_, _^_, _≤_, _<_, min}
+use Prim.Native.Nat.{ℕ, suc, _+_, _-_, _*_, _^_, _≤_, _<_}
 use native.Mathlib.Nat.{pow-suc, mul-assoc, mul-comm, add-mul}
 use native.Mathlib.Omega.{arith}
 use native.Mathlib.Decide.{decLe}
@@ -10,7 +10,7 @@ use mathlib.Core.List.{List, [], _∷_, _++_}
 use lib.ListN.{length, take, drop, getD, length-drop}
 use lib.Dec.{leb}
 use lib.Seq.{drop-cons, drop-drop, take-add, length-take-le}
-use borrow.Author.Tests.{le-leb, lt-leb}
+use borrow.Author.Tests.{le-leb, lt-leb, leb-true}
 use Rattle.certificate.specs.Bytes.{bigEndian, number, inside}
 use Rattle.certificate.specs.Views.{numberAt}
 
@@ -23,6 +23,10 @@ inside-in k f p h = le-leb (p + k) (length f) h
 pub inside-past : (k : ℕ) (f : List ℕ) (p : ℕ) → length f < p + k → inside k f p ≡ false
 unfolding inside
 inside-past k f p h = lt-leb (p + k) (length f) h
+
+pub inside-out : (k : ℕ) (f : List ℕ) (p : ℕ) → inside k f p ≡ true → p + k ≤ length f
+unfolding inside
+inside-out k f p e = leb-true (p + k) (length f) e
 
 pub inside-room : (k : ℕ) (f : List ℕ) (p : ℕ) → k ≤ length f → inside k f p ≡ leb p (length f - k)
 inside-room k f p h =
@@ -69,3 +73,12 @@ number-cat j k f p h =
     ∙ append 0 (take j (drop p f)) (take k (drop (p + j) f))
     ∙ weight (bigEndian 0 (take j (drop p f))) (take k (drop (p + j) f))
     ∙ ap (λ (n : ℕ). bigEndian 0 (take j (drop p f)) * 256 ^ n + bigEndian 0 (take k (drop (p + j) f))) l
+
+pub number-two : (f : List ℕ) (p : ℕ) → p + 2 ≤ length f → number 2 f p ≡ getD f p 0 * 256 + getD f (p + 1) 0
+number-two f p h = omega (arith, number-cat 1 1 f p h, number-one f p (omega arith), number-one f (p + 1) (omega arith))
+
+pub number-four : (f : List ℕ) (p : ℕ) → p + 4 ≤ length f
+    → number 4 f p ≡ getD f p 0 * 16777216 + getD f (p + 1) 0 * 65536 + getD f (p + 2) 0 * 256 + getD f (p + 3) 0
+number-four f p h =
+    let e : p + 2 + 1 ≡ p + 3 = omega arith in
+    omega (arith, number-cat 2 2 f p h, number-two f p (omega arith), number-two f (p + 2) (omega arith), ap (λ (q : ℕ). getD f q 0) e)

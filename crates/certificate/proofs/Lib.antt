@@ -19,3 +19,15 @@ pub mod SectionLaws
 pub mod ViewLaws
 pub mod KnownLaws
 pub mod SeenLaws
+pub mod BodyLaws
+pub mod FieldLaws
+pub mod FormLaws
+pub mod LayoutLaws
+pub mod MaskLaws
+pub mod OutlineLaws
+pub mod PartLaws
+pub mod RestLaws
+pub mod TaskLaws
+pub mod Verdicts
+pub mod EntryChecks
+pub mod SectionChecks

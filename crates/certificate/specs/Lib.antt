@@ -6,3 +6,4 @@ pub mod Writing
 pub mod Views
 pub mod Index
 pub mod Known
+pub mod Verdicts

@@ -5,28 +5,32 @@ ghost use lib.ListN.{length};
 ghost use Rattle.certificate.specs.Bytes.{number};
 ghost use Rattle.certificate.specs.Views.{numberAt};
 
-// Two bytes as a number.
-fn joined(high: u8, low: u8) -> u16
-    ensures { λ r. ⌜ r ≡ high * 256 + low ⌝ }
+// Two or four bytes as a number. Eight are two of four: LLVM makes one load of that.
+fn two(a: u8, b: u8) -> u16
+    ensures { λ r. ⌜ r ≡ a * 256 + b ⌝ }
 {
-    (high as u16) * 256 + (low as u16)
+    (a as u16) * 256 + (b as u16)
 }
 
-// The two, four or eight bytes from a place that has them, each put together from its halves.
+fn four(a: u8, b: u8, c: u8, d: u8) -> u32
+    ensures { λ r. ⌜ r ≡ a * 16777216 + b * 65536 + c * 256 + d ⌝ }
+{
+    (a as u32) * 16777216 + (b as u32) * 65536 + (c as u32) * 256 + (d as u32)
+}
+
+// The number in the two, four or eight bytes from a place that has them.
 fn u16_in(file: &[u8], at: usize) -> u16
     requires { ⌜ at + 2 ≤ length (now file) ⌝ }
     ensures { λ r. ⌜ r ≡ number 2 (now (file .entry)) at ⌝ }
 {
-    joined(file[at], file[at + 1])
+    two(file[at], file[at + 1])
 }
 
 fn u32_in(file: &[u8], at: usize) -> u32
     requires { ⌜ at + 4 ≤ length (now file) ⌝ }
     ensures { λ r. ⌜ r ≡ number 4 (now (file .entry)) at ⌝ }
 {
-    let high = u16_in(file, at);
-    let low = u16_in(file, at + 2);
-    (high as u32) * 65536 + (low as u32)
+    four(file[at], file[at + 1], file[at + 2], file[at + 3])
 }
 
 fn u64_in(file: &[u8], at: usize) -> u64

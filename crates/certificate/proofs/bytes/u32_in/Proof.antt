@@ -1,16 +1,26 @@
 -- `certificate::bytes::u32_in` meets its contract.
 -- Assumes nothing.
+use mathlib.Core.Path.{sym, _∙_}
+use Rattle.certificate.proofs.ByteLaws.{number-four}
 use borrow.Author.Needs.{needs}
-use native.Mathlib.Omega.{arith}
-use Rattle.certificate.proofs.ByteLaws.{number-cat}
 use Rattle.certificate.proofs.bytes.u32_in.Statement.{statement}
 use Rattle.certificate.proofs.bytes.u32_in.Tie as tie
 
 returns : tie.Need-returns
 returns c =
-    let a = c .before .before .before .args in
-    omega (arith, number-cat 2 2 (a .file .now) (a .at) (search needs), c .before .u16-in .ensures, c .u16-in2 .ensures)
+    let a = c .before .before .before .before .before .before .args in
+    c .four .ensures ∙ sym (number-four (a .file .now) (a .at) (search needs))
 
 pub u32-in-spec : {M : Type 1} → statement M
 u32-in-spec =
-    tie.close (tie.spec (λ c κs. search needs) (λ c. search needs) (λ c κs. search needs) (λ c. search needs) (λ c. search needs) (λ c. search needs) (λ c. search needs) returns)
+    tie.close
+    (tie.spec
+    (λ c. search needs)
+    (λ c. search needs)
+    (λ c. search needs)
+    (λ c. search needs)
+    (λ c. search needs)
+    (λ c. search needs)
+    (λ c. search needs)
+    (λ c κs. search needs)
+    returns)
