@@ -3,6 +3,7 @@ pub mod Shapes
 pub mod Statements
 pub mod Counter
 pub mod Clauses
+pub mod Propagation
 pub mod Listed
 pub mod Search
 pub mod Flat

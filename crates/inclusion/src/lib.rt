@@ -1,6 +1,7 @@
 // Basic statements, rules 1 to 5: which sets of states and actions the entries hold, and which inclusions are true.
 
 pub mod actions;
+pub mod clauses;
 pub mod listed;
 pub mod marks;
 pub mod shape;

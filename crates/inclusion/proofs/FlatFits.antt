@@ -1,0 +1,129 @@
+-- What the searches ask of the leaves that they are given holds of a checked file: listed states ascend, the masks are
+-- within the file's facts, and clauses keep their kind's rule.
+-- Assumes nothing.
+use mathlib.Core.Path.{_≡_, refl, sym, ap, subst, _∙_}
+use Prim.Native.Nat.{ℕ, _+_, _*_, _^_, _≤_, _<_, min}
+use native.Mathlib.Omega.{arith}
+use mathlib.Core.Bool.{Bool, true}
+use mathlib.Core.List.{List, [], _∷_}
+use lib.ListN.{length, getD, length-append, length-take}
+use lib.Dec.{T, eqb}
+use Rattle.task.specs.declared.Action.{Action}
+use Rattle.task.specs.Task.{actionAt}
+use Rattle.certificate.specs.declared.Clause.{Clause}
+use Rattle.certificate.specs.declared.Places.{Places}
+use Rattle.certificate.specs.File.{File, basicKind, Basic, empty, init, goal, explicit, horn, twoCnf}
+use Rattle.certificate.specs.Index as places
+use Rattle.certificate.specs.Layout.{hornRule, twoCnfRule}
+use Rattle.certificate.specs.Views.{numberAt, viewOfBasic, span}
+use Rattle.certificate.specs.Known.{Known, decoded, statePlace}
+use Rattle.certificate.specs.Writing.{Ascending, FitsAction, FitsClauses, FitsBasic}
+use Rattle.certificate.proofs.Order as order
+use Rattle.certificate.proofs.ItemLaws.{Items}
+use Rattle.certificate.proofs.EntryLaws.{BasicItems}
+use Rattle.certificate.proofs.KnownLaws.{known-init, known-goal}
+use Rattle.inclusion.specs.Counter.{Leaf, ActionsOf, noAction}
+use Rattle.inclusion.specs.Listed.{statesAt, AscendingAt}
+use Rattle.inclusion.specs.Flat.{numbersOf, flatLeaf, flatOf}
+use Rattle.inclusion.proofs.FlatLaws.{four, Holding, LeafIs, leaf-is}
+use Rattle.inclusion.proofs.FlatHolds.{placeOf, countOf, states-stand, by-leaf}
+use Rattle.inclusion.proofs.FlatAsked.{known-task}
+use Rattle.inclusion.proofs.FlatListed.{noLeaf}
+
+-- ---- the array has room for its leaves
+
+flat-length : (index : List ℕ) (f : File) (xs : List Leaf) → length (flatOf index f xs) ≡ 4 * length xs
+unfolding flatOf
+flat-length index f [] = refl
+flat-length index f (x ∷ xs) =
+    length-append (flatLeaf index f x) (flatOf index f xs) ∙ omega (arith, four index f x, flat-length index f xs)
+
+pub holding-room : (index : List ℕ) (f : File) (flat : List ℕ) (m : ℕ) (xs : List Leaf) → Holding index f flat m xs → 4 * m ≤ length flat
+holding-room index f flat m xs h =
+    let c = h .count in
+    let e : min (4 * m) (length flat) ≡ 4 * length xs = sym (length-take (4 * m) flat) ∙ ap length (h .numbers) ∙ flat-length index f xs in
+    omega arith
+
+-- ---- one basic set
+
+-- each of `count` clauses in the file from a place: two masks over n facts that keep a rule
+abbrev FitsRule : ℕ → (ℕ → ℕ → Bool) → ℕ → ℕ → Type 0
+FitsRule n rule p q = (p < 2 ^ n) × (q < 2 ^ n) × T (rule p q)
+
+abbrev pub ClausesFit : List ℕ → ℕ → (ℕ → ℕ → Bool) → ℕ → ℕ → Type 0
+ClausesFit bytes n rule place count = (i : ℕ) → i < count → FitsRule n rule (numberAt 8 bytes (place + 16 * i)) (numberAt 8 bytes (place + 16 * i + 8))
+
+-- the rule of kind 5 and that of kind 4
+abbrev pub ruleFor : ℕ → ℕ → ℕ → Bool
+ruleFor kind = getD ((λ p q. true) ∷ (λ p q. true) ∷ (λ p q. true) ∷ (λ p q. true) ∷ hornRule ∷ []) kind twoCnfRule
+
+module _ (bytes : List ℕ) (p n : ℕ) where
+  states-ascend : (b : Basic) → BasicItems bytes p b → FitsBasic n b → T (eqb (basicKind b) 3)
+      → Ascending 0 (statesAt bytes (placeOf p b) (countOf p b))
+  unfolding numbersOf viewOfBasic span basicKind
+  states-ascend empty h z t = absurd t
+  states-ascend init h z t = absurd t
+  states-ascend goal h z t = absurd t
+  states-ascend (explicit ss) h z t = subst (Ascending 0) (sym (states-stand bytes (p + 3) ss h)) (z .1)
+  states-ascend (horn cs) h z t = absurd t
+  states-ascend (twoCnf cs) h z t = absurd t
+
+  clauses-fit : (rule : ℕ → ℕ → Bool) (cs : List Clause) → Items bytes 16 (places.clauseAt bytes) (p + 3) cs → FitsClauses n rule cs → ClausesFit bytes n rule (p + 3) (length cs)
+  unfolding places.clauseAt
+  clauses-fit rule cs h z i l =
+      let d : Clause = record { positive = 0; negative = 0 } in
+      subst (λ (c : Clause). FitsRule n rule (c .positive) (c .negative)) (sym (h .here d i l))
+      (order.all-at (λ _ c. FitsRule n rule (c .positive) (c .negative)) d 0 cs (z .1) i l)
+
+  basic-fit : (b : Basic) → BasicItems bytes p b → FitsBasic n b → 4 ≤ basicKind b
+      → ClausesFit bytes n (ruleFor (basicKind b)) (placeOf p b) (countOf p b)
+  unfolding numbersOf viewOfBasic span basicKind
+  basic-fit empty h z t = absurd (omega arith)
+  basic-fit init h z t = absurd (omega arith)
+  basic-fit goal h z t = absurd (omega arith)
+  basic-fit (explicit ss) h z t = absurd (omega arith)
+  basic-fit (horn cs) h z t = clauses-fit hornRule cs h z
+  basic-fit (twoCnf cs) h z t = clauses-fit twoCnfRule cs h z
+
+-- ---- a checked file
+
+module _ (bytes : List ℕ) (at : Places) (index : List ℕ) (k : Known bytes at index) where
+  -- its start and its forbidden mask
+  pub init-low : at .init < 2 ^ decoded bytes .task .facts
+  init-low = rw (known-init bytes at index k) (known-task bytes at index k .init)
+
+  pub goal-low : at .goal < 2 ^ decoded bytes .task .facts
+  goal-low = rw (known-goal bytes at index k) (known-task bytes at index k .goal)
+
+  -- its actions, and the action that does nothing
+  pub action-fits : (i : ℕ) → i < length (decoded bytes .task .actions) → FitsAction (decoded bytes .task .facts) (actionAt (decoded bytes .task) i)
+  unfolding actionAt
+  action-fits i l =
+      order.all-at (λ _. FitsAction (decoded bytes .task .facts)) _ 0 (decoded bytes .task .actions) (known-task bytes at index k .actions) i l
+
+  pub chosen-fits : (e : ℕ) (a : Action) → ActionsOf (decoded bytes) e a → FitsAction (decoded bytes .task .facts) a
+  chosen-fits e a (i, l, _, q) = subst (FitsAction (decoded bytes .task .facts)) (sym q) (action-fits i l)
+
+  pub none-fits : FitsAction (decoded bytes .task .facts) noAction
+  unfolding noAction
+  none-fits = let l = known-task bytes at index k .init in record { pre = omega arith; add = omega arith; del = omega arith }
+
+  module _ (flat : List ℕ) (m : ℕ) (xs : List Leaf) (h : Holding index (decoded bytes) flat m xs) (j : ℕ) (l : j < m) where
+    abbrev x : Leaf
+    x = getD xs j noLeaf
+
+    is : LeafIs index (decoded bytes) flat j x
+    is = leaf-is index (decoded bytes) flat m xs h noLeaf j l
+
+    -- the states of a leaf that lists them ascend
+    pub leaf-ascends : AscendingAt bytes (at .init) (at .goal) flat j
+    leaf-ascends =
+        by-leaf bytes at index k flat j x is (λ _ _ kind place count _. T (eqb kind 3) → Ascending 0 (statesAt bytes place count))
+        (states-ascend bytes (statePlace index (x .entry)) (decoded bytes .task .facts))
+
+    -- clause i of a leaf of kind 4 or 5 is within the facts, and keeps the kind's rule
+    pub leaf-fits : 4 ≤ getD flat (4 * j) 0
+        → ClausesFit bytes (decoded bytes .task .facts) (ruleFor (getD flat (4 * j) 0)) (getD flat (4 * j + 1) 0) (getD flat (4 * j + 2) 0)
+    leaf-fits =
+        by-leaf bytes at index k flat j x is (λ _ _ kind place count _. 4 ≤ kind → ClausesFit bytes (decoded bytes .task .facts) (ruleFor kind) place count)
+        (basic-fit bytes (statePlace index (x .entry)) (decoded bytes .task .facts))
