@@ -73,7 +73,7 @@ module _ (bytes : List ℕ) (n : ℕ) where
   same-two make a b = record { known = refl; fits = λ len. refl; body = λ p len. two-kept (reference bytes a p) (reference bytes b (p + 2)) _ _ }
 
   pub actions-alike : (m i : ℕ) → Alike (actionKinds bytes m i) (actionForms m i)
-  unfolding actionKinds actionForms
+  unfolding actionKinds
   actions-alike m i =
       same-plain _
       & record { known = refl; fits = λ len. refl; body = λ p len. kept (ascending (reference bytes m) 2 0 p (len / 2)) _ _ }
@@ -81,7 +81,7 @@ module _ (bytes : List ℕ) (n : ℕ) where
       & end
 
   pub states-alike : (m i : ℕ) → Alike (stateKinds bytes n m i) (stateForms m i)
-  unfolding stateKinds stateForms clauses ruleOf
+  unfolding stateKinds clauses ruleOf
   states-alike m i =
       same-plain _
       & same-plain _

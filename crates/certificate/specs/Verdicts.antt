@@ -46,10 +46,10 @@ ruleOf false = hornRule
 -- ---- the kinds of entry by what their bodies hold
 
 -- the kinds of entry i of a file with m actions, or m action sets
-unfoldable pub actionForms : ℕ → ℕ → List Form
+abbrev pub actionForms : ℕ → ℕ → List Form
 actionForms m i = Bare ∷ Numbers m ∷ Two i i ∷ []
 
-unfoldable pub stateForms : ℕ → ℕ → List Form
+abbrev pub stateForms : ℕ → ℕ → List Form
 stateForms m i =
     Bare ∷ Bare ∷ Bare ∷ States ∷ Clauses false ∷ Clauses true ∷ One i ∷ Two i i ∷ Two i i ∷ Two i m ∷ Two i m ∷ []
 

@@ -19,7 +19,7 @@ use Rattle.certificate.specs.Known.{Known, decoded, statePlace}
 use Rattle.certificate.specs.Writing.{AllFrom, FitsBasic}
 use Rattle.certificate.proofs.EntryLaws.{BasicItems}
 use Rattle.inclusion.specs.Meaning.{inBasic, inSet}
-use Rattle.inclusion.specs.Counter.{Leaf, seen, AllIn, NoneIn, Counter}
+use Rattle.inclusion.specs.Counter.{Leaf, seen, AllIn, NoneIn, Counter, Refuted}
 use Rattle.inclusion.specs.Listed.{leafStates, leafStatesAt, leafHoldsAt, Shows}
 use Rattle.inclusion.specs.Flat.{numbersOf}
 use Rattle.inclusion.proofs.Lists.{tests-agree}
@@ -33,10 +33,6 @@ abbrev pub noLeaf : Leaf
 noLeaf = record { entry = 0; through = false }
 
 -- ---- a counterexample for one action
-
--- the action applies in a state of the file's facts, where each left leaf holds and no right leaf does
-abbrev pub Refuted : File → Action → List Leaf → List Leaf → Type 0
-Refuted f a left right = (s : ℕ) × (s < 2 ^ f .task .facts) × T (applies a s) × AllIn f a s left × NoneIn f a s right
 
 pub counter-by : (f : File) (acts : Action → Type 0) (left right : List Leaf) (P : Action → Type 0)
     → ((a : Action) → acts a → P a ↔ Refuted f a left right) → Counter f acts left right ↔ ((a : Action) × acts a × P a)

@@ -17,13 +17,13 @@ use Rattle.certificate.specs.declared.Clause.{Clause}
 use Rattle.certificate.specs.declared.Places.{Places}
 use Rattle.certificate.specs.Known.{Known, decoded}
 use Rattle.inclusion.specs.Meaning.{meets}
-use Rattle.inclusion.specs.Counter.{Leaf, AllIn, NoneIn, Counter}
+use Rattle.inclusion.specs.Counter.{Leaf, AllIn, NoneIn, Counter, Refuted}
 use Rattle.inclusion.specs.Clauses.{clauseAt, clauseCount, overOld, leafClause, leafCount, OfLeaf, OfLeaves, Refutes}
 use Rattle.inclusion.proofs.Moved.{asked, all-index, none-index}
 use Rattle.inclusion.proofs.FlatLaws.{Holding, each-leaf}
 use Rattle.inclusion.proofs.FlatClauses.{none, none-met}
 use Rattle.inclusion.proofs.FlatAsked.{within-64, seen-low, asked-meets, asked-fails}
-use Rattle.inclusion.proofs.FlatListed.{noLeaf, Refuted, counter-by}
+use Rattle.inclusion.proofs.FlatListed.{noLeaf, counter-by}
 
 -- a state meets each clause of a family; it fails one
 abbrev pub MeetsAll : (Clause → Type 0) → ℕ → Type 0

@@ -38,6 +38,10 @@ abbrev pub NoneIn : File → Action → ℕ → List Leaf → Type 0
 NoneIn f a s [] = Unit {0}
 NoneIn f a s (x ∷ xs) = T (not (inSet f (x .entry) (seen (x .through) a s))) × NoneIn f a s xs
 
+-- the action applies in some state, every left leaf holds there and no right leaf does
+abbrev pub Refuted : File → Action → List Leaf → List Leaf → Type 0
+Refuted f a left right = (s : ℕ) × (s < 2 ^ f .task .facts) × T (applies a s) × AllIn f a s left × NoneIn f a s right
+
 -- some action applies in some state, every left leaf holds there and no right leaf does
 pub record Counter (f : File) (acts : Action → Type 0) (left right : List Leaf) : Type 0 where
   pub action : Action

@@ -9,23 +9,16 @@ use Rattle.certificate.proofs.FormLaws.{next}
 use Rattle.certificate.proofs.layout.action_form.Statement.{statement}
 use Rattle.certificate.proofs.layout.action_form.Tie as tie
 
-returns : tie.Need-returns
-unfolding actionForms
-returns c = rw (c .match .keys1)
-
-returns-2 : tie.Need-returns-2
-unfolding actionForms
-returns-2 c = rw (c .match .keys2)
-
-returns-3 : tie.Need-returns-3
-unfolding actionForms
-returns-3 c = rw (c .match .keys3)
-
 returns-4 : tie.Need-returns-4
-unfolding actionForms
 returns-4 c =
     let r = c .match .rest in
     sym (List·getD-eq-default (actionForms (c .before .args .others) (c .before .args .i)) Unknown (next 2 (next 1 (next 0 zero-le (r .0 .0 .1)) (r .0 .1)) (r .1)))
 
 pub action-form-spec : {M : Type 1} → statement M
-action-form-spec = tie.close (tie.spec returns returns-2 returns-3 returns-4)
+action-form-spec =
+    tie.close
+    (tie.spec
+    (λ c. rw (c .match .keys1))
+    (λ c. rw (c .match .keys2))
+    (λ c. rw (c .match .keys3))
+    returns-4)
