@@ -20,13 +20,13 @@ use Rattle.certificate.specs.Known.{Known, decoded}
 use Rattle.certificate.specs.File.{File}
 use Rattle.inclusion.specs.declared.shape.Gathered.{Gathered}
 use Rattle.inclusion.specs.Shapes.{kindAt}
-use Rattle.inclusion.specs.Counter.{Leaf, Counter}
+use Rattle.inclusion.specs.Counter.{Leaf, Refuted}
 use Rattle.inclusion.specs.Clauses.{OfLeaf, OfLeaves, Refutes}
 use Rattle.inclusion.specs.Listed.{Shows}
 use Rattle.inclusion.specs.Gathered.{leftOf, rightOf, kindsOf, Gathers}
 use Rattle.inclusion.proofs.FlatLaws.{Holding, leaf-is}
-use Rattle.inclusion.proofs.FlatListed.{noLeaf, counter-shows}
-use Rattle.inclusion.proofs.FlatRefutes.{Unlisted, counter-refutes}
+use Rattle.inclusion.proofs.FlatListed.{noLeaf, shows-refuted}
+use Rattle.inclusion.proofs.FlatRefutes.{Unlisted, refutes-refuted}
 use Rattle.inclusion.proofs.FlatFits.{ClausesFit, ruleFor, leaf-fits}
 
 -- what stands in a list stands among its values
@@ -74,12 +74,11 @@ module _ (bytes : List ℕ) (at : Places) (index : List ℕ) (k : Known bytes at
   holding-right = record { count = g .right-count; numbers = g .right-leaves; basics = g .basic-right }
 
   -- where some leaf is explicit, the search over the anchor's states
-  pub counter-listed : r .listed ≡ true → (acts : Action → Type 0)
-      → Counter (decoded bytes) acts lefts rights
-      ↔ ((e : Action) × acts e × Shows bytes (at .init) (at .goal) e left (r .«left_count») right (r .«right_count») (r .anchor))
-  counter-listed e =
-      let w = g .anchored e in
-      counter-shows bytes at index k left (r .«left_count») lefts holding-left right (r .«right_count») rights holding-right (r .anchor) (w .0) (w .1) (w .2)
+  pub listed-refuted : r .listed ≡ true → (e : Action)
+      → Shows bytes (at .init) (at .goal) e left (r .«left_count») right (r .«right_count») (r .anchor) ↔ Refuted (decoded bytes) e lefts rights
+  listed-refuted q =
+      let w = g .anchored q in
+      shows-refuted bytes at index k left (r .«left_count») lefts holding-left right (r .«right_count») rights holding-right (r .anchor) (w .0) (w .1) (w .2)
 
   module _ (clausal : r .listed ≡ false) where
     abbrev kinds : List Leaf → List ℕ
@@ -99,12 +98,12 @@ module _ (bytes : List ℕ) (at : Places) (index : List ℕ) (k : Known bytes at
         (kind-among index (decoded bytes) right (r .«right_count») rights holding-right j l 3 (eqb→eq (getD right (4 * j) 0) 3 t))))
 
     -- where none is, the search over clauses
-    pub counter-clauses : (acts : Action → Type 0) → ((e : Action) → acts e → e .add < 2 ^ decoded bytes .task .facts)
-        → Counter (decoded bytes) acts lefts rights
-        ↔ ((e : Action) × acts e × Refutes (decoded bytes .task .facts) e (OfLeaves bytes (at .init) (at .goal) e left (r .«left_count»))
-        (OfLeaf bytes (at .init) (at .goal) e right 0) (OfLeaf bytes (at .init) (at .goal) e right 1))
-    counter-clauses =
-        counter-refutes bytes at index k left (r .«left_count») lefts holding-left unlisted-left
+    pub clauses-refuted : (e : Action) → e .add < 2 ^ decoded bytes .task .facts
+        → Refutes (decoded bytes .task .facts) e (OfLeaves bytes (at .init) (at .goal) e left (r .«left_count»))
+        (OfLeaf bytes (at .init) (at .goal) e right 0) (OfLeaf bytes (at .init) (at .goal) e right 1)
+        ↔ Refuted (decoded bytes) e lefts rights
+    clauses-refuted =
+        refutes-refuted bytes at index k left (r .«left_count») lefts holding-left unlisted-left
         right (r .«right_count») rights holding-right unlisted-right (g .clauses clausal .0) (g .zeros)
 
     module _ (j : ℕ) (l : j < r .«left_count») (three : 3 ≤ getD left (4 * j) 0) where

@@ -135,7 +135,3 @@ module _ (bytes : List ℕ) (at : Places) (index : List ℕ) (k : Known bytes at
             fails = none-held right r ys g a s .1 fails;
           }),
         )
-
-    pub counter-shows : (acts : Action → Type 0)
-        → Counter (decoded bytes) acts xs ys ↔ ((a : Action) × acts a × Shows bytes (at .init) (at .goal) a left m right r anchor)
-    counter-shows acts = counter-by (decoded bytes) acts xs ys (λ a. Shows bytes (at .init) (at .goal) a left m right r anchor) (λ a _. shows-refuted a)

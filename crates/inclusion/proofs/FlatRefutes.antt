@@ -23,7 +23,7 @@ use Rattle.inclusion.proofs.Moved.{asked, all-index, none-index}
 use Rattle.inclusion.proofs.FlatLaws.{Holding, each-leaf}
 use Rattle.inclusion.proofs.FlatClauses.{none, none-met}
 use Rattle.inclusion.proofs.FlatAsked.{within-64, seen-low, asked-meets, asked-fails}
-use Rattle.inclusion.proofs.FlatListed.{noLeaf, counter-by}
+use Rattle.inclusion.proofs.FlatListed.{noLeaf}
 
 -- a state meets each clause of a family; it fails one
 abbrev pub MeetsAll : (Clause → Type 0) → ℕ → Type 0
@@ -115,7 +115,3 @@ module _ (bytes : List ℕ) (at : Places) (index : List ℕ) (k : Known bytes at
       two : (s : ℕ) → (FailsOne (OfLeaf bytes (at .init) (at .goal) a right 0) s × FailsOne (OfLeaf bytes (at .init) (at .goal) a right 1) s)
           ↔ ((j : ℕ) → j < r → FailsOne (OfLeaf bytes (at .init) (at .goal) a right j) s)
       two s = both-or-each (λ j. FailsOne (OfLeaf bytes (at .init) (at .goal) a right j) s) r few (λ j q. zeros-fail bytes (at .init) (at .goal) a right r j zeros q s)
-
-  pub counter-refutes : (acts : Action → Type 0) → ((a : Action) → acts a → a .add < 2 ^ decoded bytes .task .facts)
-      → Counter (decoded bytes) acts xs ys ↔ ((a : Action) × acts a × Found a)
-  counter-refutes acts add = counter-by (decoded bytes) acts xs ys Found (λ a c. refutes-refuted a (add a c))

@@ -2,6 +2,7 @@
 
 pub mod actions;
 pub mod clauses;
+pub mod decide;
 pub mod listed;
 pub mod marks;
 pub mod shape;

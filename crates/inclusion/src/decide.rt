@@ -1,0 +1,46 @@
+// The verdict on a basic statement: its leaves are gathered, and then its truth is decided by listed states or by clauses.
+use crate::actions::action_marks;
+use crate::clauses::refuted;
+use crate::listed::shown;
+use crate::marks::is_marked;
+use crate::shape::Gathered;
+use certificate::known::action;
+use certificate::Places;
+use task::Action;
+ghost use mathlib.Core.Path.{_≡_};
+ghost use mathlib.Core.Logic.{_↔_};
+ghost use Prim.Native.Nat.{_≤_, _<_, _^_};
+ghost use lib.ListN.{length};
+ghost use lib.Dec.{T};
+ghost use Rattle.task.specs.declared.Action.{Action};
+ghost use Rattle.certificate.specs.Known.{Known, decoded};
+ghost use Rattle.inclusion.specs.Counter.{Refuted, ActionsOf};
+ghost use Rattle.inclusion.specs.Gathered.{Gathers, leftOf, rightOf, actionsOfRule};
+
+// Whether an action shows the gathered statement of a rule at entries e and d to be untrue.
+fn one_refutes(
+    file: &[u8],
+    at: Places,
+    index: &[u16; 768],
+    rule: u8,
+    e: u16,
+    d: u16,
+    left: &[u32; 96],
+    right: &[u32; 64],
+    g: Gathered,
+    a: Action,
+) -> bool
+    requires { ⌜ Known (now file) at (now index) ⌝ }
+    requires { ⌜ Gathers (decoded (now file)) (now index) rule e d (now left) (now right) g ⌝ }
+    requires { ⌜ 8 ≤ length (now right) ⌝ }
+    requires { ⌜ a .add < 2 ^ decoded (now file) .task .facts ⌝ }
+    ensures { λ r. ⌜ T r ↔ Refuted (decoded (now (file .entry))) a (leftOf (decoded (now (file .entry))) rule e d) (rightOf (decoded (now (file .entry))) rule e d) ⌝ }
+{
+    let m = g.left_count as usize;
+    let r = g.right_count as usize;
+    let anchor = g.anchor as usize;
+    if g.listed {
+        return shown(file, at.init, at.goal, left, m, right, r, anchor, a);
+    }
+    refuted(file, at.facts, at.init, at.goal, left, m, right, g.two, a)
+}
