@@ -36,3 +36,4 @@ pub mod FlatRefutes
 pub mod FlatFits
 pub mod FlatGathered
 pub mod FlatReady
+pub mod TryLaws

@@ -42,6 +42,10 @@ NoneIn f a s (x ∷ xs) = T (not (inSet f (x .entry) (seen (x .through) a s))) �
 abbrev pub Refuted : File → Action → List Leaf → List Leaf → Type 0
 Refuted f a left right = (s : ℕ) × (s < 2 ^ f .task .facts) × T (applies a s) × AllIn f a s left × NoneIn f a s right
 
+-- so for some action of action set x
+abbrev pub SomeRefuted : File → ℕ → List Leaf → List Leaf → Type 0
+SomeRefuted f x left right = (a : Action) × ActionsOf f x a × Refuted f a left right
+
 -- some action applies in some state, every left leaf holds there and no right leaf does
 pub record Counter (f : File) (acts : Action → Type 0) (left right : List Leaf) : Type 0 where
   pub action : Action

@@ -14,8 +14,8 @@ ghost use lib.ListN.{length};
 ghost use lib.Dec.{T};
 ghost use Rattle.task.specs.declared.Action.{Action};
 ghost use Rattle.certificate.specs.Known.{Known, decoded};
-ghost use Rattle.inclusion.specs.Counter.{Refuted, ActionsOf};
-ghost use Rattle.inclusion.specs.Gathered.{Gathers, leftOf, rightOf, actionsOfRule};
+ghost use Rattle.inclusion.specs.Counter.{Refuted, SomeRefuted};
+ghost use Rattle.inclusion.specs.Gathered.{Gathers, leftOf, rightOf};
 
 // Whether an action shows the gathered statement of a rule at entries e and d to be untrue.
 fn one_refutes(
@@ -43,4 +43,37 @@ fn one_refutes(
         return shown(file, at.init, at.goal, left, m, right, r, anchor, a);
     }
     refuted(file, at.facts, at.init, at.goal, left, m, right, g.two, a)
+}
+
+// Whether some action of the gathered action set does.
+fn some_refutes(
+    file: &[u8],
+    at: Places,
+    index: &[u16; 768],
+    rule: u8,
+    e: u16,
+    d: u16,
+    left: &[u32; 96],
+    right: &[u32; 64],
+    g: Gathered,
+) -> bool
+    requires { ⌜ Known (now file) at (now index) ⌝ }
+    requires { ⌜ Gathers (decoded (now file)) (now index) rule e d (now left) (now right) g ⌝ }
+    requires { ⌜ 8 ≤ length (now right) ⌝ }
+    requires { ⌜ g .actions < at .«action_sets» ⌝ }
+    ensures { λ r. ⌜ T r ↔ SomeRefuted (decoded (now (file .entry))) (g .actions) (leftOf (decoded (now (file .entry))) rule e d) (rightOf (decoded (now (file .entry))) rule e d) ⌝ }
+{
+    let marks = action_marks(file, at, index, g.actions);
+    let count = at.actions;
+    let mut i = 0u16;
+    while i < count {
+        if is_marked(marks, i) {
+            let a = action(file, at, index, i);
+            if one_refutes(file, at, index, rule, e, d, left, right, g, a) {
+                return true;
+            }
+        }
+        i += 1;
+    }
+    false
 }
