@@ -111,14 +111,14 @@ module _ (index : List ℕ) (f : File) where
         let w = three v in
         at-leaf i (omega arith) ∙ List·getD-append (numbersOf v) (flag (getD xs j d .through) ∷ []) 0 i (omega arith)
 
-    at-kind : getD flat (4 * j) 0 ≡ kindAt f (getD xs j d .entry)
+    pub at-kind : getD flat (4 * j) 0 ≡ kindAt f (getD xs j d .entry)
     unfolding kindAt
     at-kind =
         let e : ℕ = getD xs j d .entry in
         let q : 4 * j ≡ 4 * j + 0 = omega arith in
         ap (λ (n : ℕ). getD flat n 0) q ∙ at-number 0 (omega arith) ∙ kind-number (statePlace index e) (stateSetAt f e)
 
-    at-flag : getD flat (4 * j + 3) 0 ≡ flag (getD xs j d .through)
+    pub at-flag : getD flat (4 * j + 3) 0 ≡ flag (getD xs j d .through)
     unfolding flatLeaf
     at-flag =
         let v = viewAt (getD xs j d .entry) in

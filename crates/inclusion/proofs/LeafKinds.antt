@@ -85,7 +85,7 @@ module _ (f : File) where
 
   -- ---- literals are of kinds 0 to 5, complements taken off
 
-  literal-basic : (e : ℕ) → T (isLiteral f e) → T (leb (literalKind f e) 5)
+  pub literal-basic : (e : ℕ) → T (isLiteral f e) → T (leb (literalKind f e) 5)
   unfolding isLiteral isBasic isComplement
   literal-basic e t =
       elim (or-cases (isBasic f e) (isComplement f e && isBasic f (child f e)) t) [

@@ -48,7 +48,7 @@ if-false false x y t = refl
 
 module _ (f : File) (o : Ordered f) where
   module _ (k : ℕ) (tree : TreeKind k) where
-    earlier : (e : ℕ) → T (eqb (kindAt f e) k) → (child f e < e) × (second (stateSetAt f e) < e)
+    pub earlier : (e : ℕ) → T (eqb (kindAt f e) k) → (child f e < e) × (second (stateSetAt f e) < e)
     unfolding kindAt child
     earlier e t = two-earlier e (stateSetAt f e) (subst TreeKind (sym (eqb→eq (stateKind (stateSetAt f e)) k t)) tree) (o .states e)
 

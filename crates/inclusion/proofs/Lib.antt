@@ -37,3 +37,17 @@ pub mod FlatFits
 pub mod FlatGathered
 pub mod FlatReady
 pub mod TryLaws
+pub mod NodeLaws
+pub mod TreeLaws
+pub mod ArrayLaws
+pub mod KindLaws
+pub mod PickLaws
+pub mod SortLaws
+pub mod ShapeLaws
+pub mod AnchorLaws
+pub mod PartLaws
+pub mod SideLaws
+pub mod RuleLaws
+pub mod DecideLaws
+pub mod GatherLaws
+pub mod GatheredLaws

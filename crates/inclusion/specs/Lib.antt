@@ -10,3 +10,6 @@ pub mod Flat
 pub mod Marks
 pub mod Verdict
 pub mod Gathered
+pub mod Trees
+pub mod Arrays
+pub mod Decided

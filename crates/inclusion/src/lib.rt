@@ -5,6 +5,10 @@ pub mod clauses;
 pub mod decide;
 pub mod listed;
 pub mod marks;
+pub mod arrays;
+pub mod parts;
+pub mod sorts;
+pub mod trees;
 pub mod shape;
 
 // What is found of a basic statement. Document 01 replies 11 to what is untrue and 10 to a shape that is not permitted.

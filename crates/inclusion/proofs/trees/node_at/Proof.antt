@@ -1,0 +1,11 @@
+use Rattle.inclusion.specs.Trees.{nodeAt}
+use borrow.Author.Needs.{needs}
+use Rattle.inclusion.proofs.trees.node_at.Statement.{statement}
+use Rattle.inclusion.proofs.trees.node_at.Tie as tie
+
+returns : tie.Need-returns
+unfolding nodeAt
+returns c = cc
+
+pub node-at-spec : {M : Type 1} → statement M
+node-at-spec = tie.close (tie.spec (λ c κs. search needs) (λ c κs. search needs) returns)
