@@ -10,6 +10,7 @@ pub mod Filled
 pub mod LeafKinds
 pub mod MarkLaws
 pub mod ActionLaws
+pub mod TaskBounds
 pub mod RuleTruth
 pub mod SearchLaws
 pub mod ListedLaws
@@ -51,3 +52,4 @@ pub mod RuleLaws
 pub mod DecideLaws
 pub mod GatherLaws
 pub mod GatheredLaws
+pub mod VerdictLaws

@@ -16,18 +16,10 @@ use Rattle.inclusion.specs.Meaning.{statesWithin}
 use Rattle.inclusion.specs.Shapes.{keep, Sides, kindAt, leaves, permitted, shape₁, shapeWith, shape₂, shape₃, shape₄}
 use Rattle.inclusion.specs.Counter.{Leaf, Counter, ActionsOf, noAction, leftLeaves, rightLeaves}
 use Rattle.inclusion.specs.Flat.{notEmpty}
-use Rattle.inclusion.specs.Gathered.{bracketLeaf, bracketSides, shapeOf, sidesOf, throughOf, actionsOfRule, leftOf, rightOf}
+use Rattle.inclusion.specs.Gathered.{bracketLeaf, bracketSides, shapeOf, sidesOf, throughOf, actionsOfRule, leftOf, rightOf, Acts}
 use Rattle.inclusion.proofs.Reduced.{truth-1, truth-2, truth-3, truth-4, sidesWith}
 use Rattle.inclusion.proofs.Filled.{drop-empty}
 use Rattle.inclusion.proofs.LeafKinds.{the-only}
-
--- the actions that a rule's statement is about: none, or those of its action set
-abbrev pub Acts : File → ℕ → ℕ → Action → Type 0
-Acts f (suc (suc zero)) a = ActionsOf f (actionsOfRule f 2 a)
-Acts f (suc (suc (suc zero))) a = ActionsOf f (actionsOfRule f 3 a)
-Acts f zero a = λ c. c ≡ noAction
-Acts f (suc zero) a = λ c. c ≡ noAction
-Acts f (suc (suc (suc (suc k)))) a = λ c. c ≡ noAction
 
 abbrev NoCounterOf : File → ℕ → ℕ → ℕ → Type 0
 NoCounterOf f rule a b = Counter f (Acts f rule a) (leftOf f rule a b) (rightOf f rule a b) → ⊥
@@ -35,18 +27,18 @@ NoCounterOf f rule a b = Counter f (Acts f rule a) (leftOf f rule a b) (rightOf 
 iff-not : {A B : Type 0} → A ↔ B → (A → ⊥) ↔ (B → ⊥)
 iff-not e = ((λ h b. h (e .1 b)), (λ h a. h (e .0 a)))
 
+-- the only leaf of the bracket's kind is the one that was looked for
+pub the-bracket : (f : File) (k : ℕ) (anchors : _) (a b : ℕ) → T (shapeWith f k anchors a b)
+    → keep (λ e. eqb (kindAt f e) k) (leaves f 7 a) ≡ bracketLeaf f k a ∷ []
+unfolding shapeWith bracketLeaf
+the-bracket f k anchors a b t =
+    let h = the-only _ _ t in
+    subst (λ (xs : List ℕ). xs ≡ getD xs 0 0 ∷ []) (sym (h .1)) refl
+
 module _ (f : File) (o : Ordered f) (w : Bounded (f .task)) where
   -- right leaves of kind 0 are left out
   filled : (acts : Action → Type 0) (left right : List Leaf) → (Counter f acts left right → ⊥) ↔ (Counter f acts left (notEmpty f right) → ⊥)
   filled acts left right = iff-not (let e = drop-empty f o acts left right in (e .1, e .0))
-
-  -- the only leaf of the bracket's kind is the one that was looked for
-  the-bracket : (k : ℕ) (anchors : _) (a b : ℕ) → T (shapeWith f k anchors a b)
-      → keep (λ e. eqb (kindAt f e) k) (leaves f 7 a) ≡ bracketLeaf f k a ∷ []
-  unfolding shapeWith bracketLeaf
-  the-bracket k anchors a b t =
-      let h = the-only _ _ t in
-      subst (λ (xs : List ℕ). xs ≡ getD xs 0 0 ∷ []) (sym (h .1)) refl
 
   true-1 : (a b : ℕ) → T (statesWithin f a b) ↔ NoCounterOf f 1 a b
   unfolding leftOf rightOf sidesOf throughOf
@@ -54,11 +46,11 @@ module _ (f : File) (o : Ordered f) (w : Bounded (f .task)) where
 
   true-2 : (a b : ℕ) → T (shape₂ f a b) → T (statesWithin f a b) ↔ NoCounterOf f 2 a b
   unfolding leftOf rightOf sidesOf throughOf bracketSides actionsOfRule shape₂
-  true-2 a b t = Iff·trans (truth-2 f o w a b (bracketLeaf f 9 a) (the-bracket 9 _ a b t)) (filled _ _ _)
+  true-2 a b t = Iff·trans (truth-2 f o w a b (bracketLeaf f 9 a) (the-bracket f 9 _ a b t)) (filled _ _ _)
 
   true-3 : (a b : ℕ) → T (shape₃ f a b) → T (statesWithin f a b) ↔ NoCounterOf f 3 a b
   unfolding leftOf rightOf sidesOf throughOf bracketSides actionsOfRule shape₃
-  true-3 a b t = Iff·trans (truth-3 f o w a b (bracketLeaf f 10 a) (the-bracket 10 _ a b t)) (filled _ _ _)
+  true-3 a b t = Iff·trans (truth-3 f o w a b (bracketLeaf f 10 a) (the-bracket f 10 _ a b t)) (filled _ _ _)
 
   true-4 : (a b : ℕ) → T (statesWithin f a b) ↔ NoCounterOf f 4 a b
   unfolding leftOf rightOf sidesOf throughOf

@@ -10,7 +10,8 @@ use lib.Dec.{T, eqb}
 use Rattle.task.specs.Reach.{member}
 use Rattle.certificate.specs.File.{File, stateSetAt, second}
 use Rattle.inclusion.specs.Shapes.{keep, Sides, kindAt, child, leaves, shape₁, shape₂, shape₃, shape₄}
-use Rattle.inclusion.specs.Counter.{Leaf, leftLeaves, rightLeaves}
+use Rattle.task.specs.declared.Action.{Action}
+use Rattle.inclusion.specs.Counter.{Leaf, ActionsOf, noAction, leftLeaves, rightLeaves}
 use Rattle.inclusion.specs.Flat.{flatOf, notEmpty}
 use Rattle.inclusion.specs.declared.shape.Gathered.{Gathered}
 
@@ -52,6 +53,14 @@ module _ (f : File) where
 
   unfoldable pub kindsOf : List Leaf → List ℕ
   kindsOf xs = map (λ x. kindAt f (x .entry)) xs
+
+-- the actions that a rule's statement is about: none, or those of its action set
+abbrev pub Acts : File → ℕ → ℕ → Action → Type 0
+Acts f (suc (suc zero)) a = ActionsOf f (actionsOfRule f 2 a)
+Acts f (suc (suc (suc zero))) a = ActionsOf f (actionsOfRule f 3 a)
+Acts f zero a = λ c. c ≡ noAction
+Acts f (suc zero) a = λ c. c ≡ noAction
+Acts f (suc (suc (suc (suc k)))) a = λ c. c ≡ noAction
 
 -- of a permitted statement: its left and right leaves, four numbers each, with zeros after the right ones, which read as
 -- leaves of kind 0

@@ -15,6 +15,11 @@ verdictNumber Holds = 0
 verdictNumber NotPermitted = 10
 verdictNumber Untrue = 11
 
+-- of a statement that is permitted
+unfoldable pub verdictBut : Bool → Verdict
+verdictBut true = Untrue
+verdictBut false = Holds
+
 -- what a statement says of entries a and b
 unfoldable pub verdictBy : Statement → ℕ → ℕ → Verdict
 verdictBy x a b =

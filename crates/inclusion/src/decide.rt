@@ -1,21 +1,24 @@
 // The verdict on a basic statement: its leaves are gathered, and then its truth is decided by listed states or by clauses.
 use crate::actions::action_marks;
+use crate::actions::actions_within;
 use crate::clauses::refuted;
 use crate::listed::shown;
 use crate::marks::is_marked;
+use crate::shape::gather;
 use crate::shape::Gathered;
+use crate::Verdict;
 use certificate::known::action;
 use certificate::Places;
 use task::Action;
 ghost use mathlib.Core.Path.{_≡_};
 ghost use mathlib.Core.Logic.{_↔_};
 ghost use Prim.Native.Nat.{_≤_, _<_, _^_};
-ghost use lib.ListN.{length};
 ghost use lib.Dec.{T};
 ghost use Rattle.task.specs.declared.Action.{Action};
 ghost use Rattle.certificate.specs.Known.{Known, decoded};
-ghost use Rattle.inclusion.specs.Counter.{Refuted, SomeRefuted};
-ghost use Rattle.inclusion.specs.Gathered.{Gathers, leftOf, rightOf};
+ghost use Rattle.inclusion.specs.Counter.{Refuted, SomeRefuted, Counter};
+ghost use Rattle.inclusion.specs.Gathered.{Gathers, leftOf, rightOf, Acts};
+ghost use Rattle.inclusion.specs.Verdict.{verdictOf, verdictBut};
 
 // Whether an action shows the gathered statement of a rule at entries e and d to be untrue.
 fn one_refutes(
@@ -32,7 +35,6 @@ fn one_refutes(
 ) -> bool
     requires { ⌜ Known (now file) at (now index) ⌝ }
     requires { ⌜ Gathers (decoded (now file)) (now index) rule e d (now left) (now right) g ⌝ }
-    requires { ⌜ 8 ≤ length (now right) ⌝ }
     requires { ⌜ a .add < 2 ^ decoded (now file) .task .facts ⌝ }
     ensures { λ r. ⌜ T r ↔ Refuted (decoded (now (file .entry))) a (leftOf (decoded (now (file .entry))) rule e d) (rightOf (decoded (now (file .entry))) rule e d) ⌝ }
 {
@@ -59,7 +61,6 @@ fn some_refutes(
 ) -> bool
     requires { ⌜ Known (now file) at (now index) ⌝ }
     requires { ⌜ Gathers (decoded (now file)) (now index) rule e d (now left) (now right) g ⌝ }
-    requires { ⌜ 8 ≤ length (now right) ⌝ }
     requires { ⌜ g .actions < at .«action_sets» ⌝ }
     ensures { λ r. ⌜ T r ↔ SomeRefuted (decoded (now (file .entry))) (g .actions) (leftOf (decoded (now (file .entry))) rule e d) (rightOf (decoded (now (file .entry))) rule e d) ⌝ }
 {
@@ -76,4 +77,61 @@ fn some_refutes(
         i += 1;
     }
     false
+}
+
+// Whether the gathered statement has a counterexample: by an action of its set where it has a bracket, else by none.
+fn is_countered(
+    file: &[u8],
+    at: Places,
+    index: &[u16; 768],
+    rule: u8,
+    e: u16,
+    d: u16,
+    left: &[u32; 96],
+    right: &[u32; 64],
+    g: Gathered,
+) -> bool
+    requires { ⌜ Known (now file) at (now index) ⌝ }
+    requires { ⌜ Gathers (decoded (now file)) (now index) rule e d (now left) (now right) g ⌝ }
+    requires { ⌜ (2 ≤ rule → rule ≤ 3 → g .actions < at .«action_sets») ⌝ }
+    ensures { λ r. ⌜ T r ↔ Counter (decoded (now (file .entry))) (Acts (decoded (now (file .entry))) rule e) (leftOf (decoded (now (file .entry))) rule e d) (rightOf (decoded (now (file .entry))) rule e d) ⌝ }
+{
+    let nothing = Action {
+        pre: 0,
+        add: 0,
+        del: 0,
+    };
+    if rule < 2 {
+        return one_refutes(file, at, index, rule, e, d, left, right, g, nothing);
+    }
+    if 3 < rule {
+        return one_refutes(file, at, index, rule, e, d, left, right, g, nothing);
+    }
+    some_refutes(file, at, index, rule, e, d, left, right, g)
+}
+
+// The verdict on a permitted statement.
+fn verdict(untrue: bool) -> Verdict
+    ensures { λ r. ⌜ r ≡ verdictBut untrue ⌝ }
+{
+    if untrue { Verdict::Untrue } else { Verdict::Holds }
+}
+
+// The verdict on rule 1 to 5 at entries e and d.
+pub fn decide(file: &[u8], at: Places, index: &[u16; 768], rule: u8, e: u16, d: u16) -> Verdict
+    requires { ⌜ Known (now file) at (now index) ⌝ }
+    requires { ⌜ (1 ≤ rule) × (rule ≤ 5) ⌝ }
+    requires { ⌜ (rule ≡ 5 → (e < at .«action_sets») × (d < at .«action_sets»)) ⌝ }
+    ensures { λ r. ⌜ r ≡ verdictOf (decoded (now (file .entry))) rule e d ⌝ }
+{
+    if rule == 5 {
+        return verdict(!actions_within(file, at, index, e, d));
+    }
+    let mut left = [0u32; 96];
+    let mut right = [0u32; 64];
+    let g = gather(file, at, index, rule, e, d, &mut left, &mut right);
+    if g.permitted {
+        return verdict(is_countered(file, at, index, rule, e, d, &left, &right, g));
+    }
+    Verdict::NotPermitted
 }

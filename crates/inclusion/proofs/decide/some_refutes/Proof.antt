@@ -25,7 +25,7 @@ abbrev μ-loop : tie.MeasureT-loop
 μ-loop file at index rule e d left right g marks count i₀ i = count - i
 
 action-marks-requires : tie.Need-action-marks-requires Inv-loop μ-loop
-action-marks-requires c κs = (c .before .pre .0, c .before .pre .1 .1 .1)
+action-marks-requires c κs = (c .before .pre .0, c .before .pre .1 .1)
 
 loop-holds : tie.Need-loop-holds Inv-loop μ-loop
 loop-holds c = (omega arith, refl, none-yet)
@@ -46,7 +46,7 @@ one-refutes-requires c κs =
     let m = known-actions _ _ _ (s .pre .0) in
     let v = c .before .before .before .before .loop .inv in
     let l : c .before .before .before .before .loop .i < length (decoded (s .args .file .now) .task .actions) = omega arith in
-    (s .pre .0, (s .pre .1 .0, (s .pre .1 .1 .0, rw (c .action .ensures) (action-fits _ _ _ (s .pre .0) (c .before .before .before .before .loop .i) l .add))))
+    (s .pre .0, (s .pre .1 .0, rw (c .action .ensures) (action-fits _ _ _ (s .pre .0) (c .before .before .before .before .loop .i) l .add)))
 
 returns : tie.Need-returns Inv-loop μ-loop
 returns c =

@@ -1,0 +1,18 @@
+-- `decide::verdict`: by cases.
+-- Assumes nothing.
+use mathlib.Core.Path.{refl}
+use borrow.Author.Needs.{needs}
+use Rattle.inclusion.specs.Verdict.{verdictBut}
+use Rattle.inclusion.proofs.decide.verdict.Statement.{statement}
+use Rattle.inclusion.proofs.decide.verdict.Tie as tie
+
+returns : tie.Need-returns
+unfolding verdictBut
+returns c = rw (c .if1 .taken) refl
+
+returns-2 : tie.Need-returns-2
+unfolding verdictBut
+returns-2 c = rw (c .if1 .left) refl
+
+pub verdict-spec : {M : Type 1} → statement M
+verdict-spec = tie.close (tie.spec returns returns-2)
