@@ -14,7 +14,7 @@ use borrow.Author.Tests.{eq-eqb, ne-eqb}
 use Rattle.inclusion.specs.Meaning.{someBelow}
 use Rattle.inclusion.specs.declared.sorts.Counts.{Counts}
 use Rattle.inclusion.specs.declared.sorts.Flags.{Flags}
-use Rattle.inclusion.specs.Decided.{kindIn, mayAnchor, fromOf, toOf, clausesBy, statesBy, pairBy, permitsBy}
+use Rattle.inclusion.specs.Decided.{kindIn, flagsIn, mayAnchor, fromOf, toOf, clausesBy, statesBy, pairBy, permitsBy}
 
 -- ---- one leaf more
 
@@ -82,3 +82,14 @@ module _ (rule : ℕ) (x : Flags) (n : ℕ) (anchored : Bool) where
   pub permits-sorts : (rule ≡ 4 → ⊥) → permitsBy rule x n anchored ≡ (clausesBy x n || statesBy x anchored)
   unfolding permitsBy
   permits-sorts e = if-other rule 4 (pairBy x) (clausesBy x n || statesBy x anchored) e
+
+-- ---- what the flags say
+
+module _ (left right : List ℕ) (m n : ℕ) (x : Flags) (e : x ≡ flagsIn left m right n) where
+  pub flags-listed : (x .l3 || x .r3) ≡ (kindIn left m 3 || kindIn right n 3)
+  unfolding flagsIn
+  flags-listed = ap (λ (y : Flags). y .l3 || y .r3) e
+
+  pub flags-two : x .l5 ≡ kindIn left m 5
+  unfolding flagsIn
+  flags-two = ap (λ (y : Flags). y .l5) e

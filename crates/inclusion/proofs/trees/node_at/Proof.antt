@@ -1,3 +1,5 @@
+-- `trees::node_at` meets its contract.
+-- Assumes nothing.
 use Rattle.inclusion.specs.Trees.{nodeAt}
 use borrow.Author.Needs.{needs}
 use Rattle.inclusion.proofs.trees.node_at.Statement.{statement}

@@ -1,3 +1,5 @@
+-- `trees::with` meets its contract: a full list stays as it is, another has one entry more.
+-- Assumes nothing.
 use borrow.Author.Needs.{needs}
 use Rattle.inclusion.proofs.TreeLaws.{lists-full, lists-more}
 use Rattle.inclusion.proofs.trees.with.Statement.{statement}
