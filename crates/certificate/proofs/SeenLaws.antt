@@ -53,7 +53,7 @@ module _ (bytes : List ℕ) where
   basic-seen p (horn cs) h = (cs, refl, record { count = refl; items = h })
   basic-seen p (twoCnf cs) h = (cs, refl, record { count = refl; items = h })
 
-  view-seen : (p : ℕ) (x : StateSet) → StateItems bytes p x → StateSeen (viewOf p x) x
+  pub view-seen : (p : ℕ) (x : StateSet) → StateItems bytes p x → StateSeen (viewOf p x) x
   unfolding viewOf
   view-seen p (basic b) h = basic-seen p b h
   view-seen p (complement a) h = refl

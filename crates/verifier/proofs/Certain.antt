@@ -29,13 +29,14 @@ use Rattle.certificate.proofs.Written.{anything, certificate-reads}
 use Rattle.certificate.proofs.WrittenBytes.{certificate-bytes}
 use Rattle.inclusion.specs.Meaning.{inSet, inActions, progressed, statesWithin}
 use Rattle.inclusion.proofs.Sets.{within, progression-iff}
+use Rattle.inclusion.proofs.TaskBounds.{fits-bounded}
 use Rattle.derivation.specs.Step.{checkStep}
 use Rattle.verifier.specs.declared.Reply.the-variants.{Accepted}
 use Rattle.verifier.specs.Reply.{checkSteps, checkFile, replyTo, replyOf}
 use Rattle.verifier.specs.Certain.{stepOf, theActionSets, theStateSets, theSteps, certificateOf}
 use Rattle.verifier.specs.Points.{CertainCertificate, SafeIsAccepted}
 use Rattle.verifier.proofs.Computed.{computed}
-use Rattle.verifier.proofs.Judgements.{fits-bounded, accepted-is-safe}
+use Rattle.verifier.proofs.Judgements.{accepted-is-safe}
 
 abbrev theFile : Task → List ℕ → File
 theFile t ss = record { task = t; actionSets = theActionSets; stateSets = theStateSets ss; steps = theSteps }

@@ -8,29 +8,23 @@ use native.Mathlib.Omega.{arith}
 use mathlib.Core.List.{List, [], _∷_}
 use lib.ListN.{length, getD, drop, length-drop}
 use lib.Dec.{T, eqb, eqb→eq}
-use Rattle.task.specs.Task.{Task, actionAt}
 use Rattle.task.specs.Reach.{Safe}
 use Rattle.task.specs.System.{UnsolvableIn}
-use Rattle.task.proofs.Moves.{Bounded, bounded, system, unsolvable, safe-unsolvable, dead}
+use Rattle.task.proofs.Moves.{Bounded, system, unsolvable, safe-unsolvable, dead}
 use Rattle.certificate.specs.Result.{Result, refuse, found, _>>=_, need}
 use Rattle.certificate.specs.File.{Step, File, stepAt}
 use Rattle.certificate.specs.Layout.{readFile}
-use Rattle.certificate.specs.Writing.{FitsTask, FitsAction}
 use Rattle.certificate.proofs.Results.{bind-out, need-out}
 use Rattle.certificate.proofs.Reading.{Read, file-read}
-use Rattle.certificate.proofs.Order.{Ordered, ordered, all-at}
+use Rattle.certificate.proofs.Order.{Ordered, ordered}
 use Rattle.inclusion.specs.Meaning.{inSet}
 use Rattle.inclusion.proofs.Sets.{within, within-actions}
+use Rattle.inclusion.proofs.TaskBounds.{fits-bounded}
 use Rattle.derivation.specs.Step.{checkStep}
 use Rattle.derivation.proofs.Holds.{HoldsAs, Holds, step-holds}
 use Rattle.verifier.specs.declared.Reply.the-variants.{Accepted}
 use Rattle.verifier.specs.Reply.{checkSteps, checkFile, replyTo, replyOf}
 use Rattle.verifier.specs.Points.{Judged, JudgementsTrue, AcceptedIsSafe}
-
--- a task that fits the format stays within its facts
-pub fits-bounded : (t : Task) → FitsTask t → Bounded t
-unfolding actionAt
-fits-bounded t w = bounded t (w .init) (λ i l. all-at (λ j. FitsAction (t .facts)) _ 0 (t .actions) (w .actions) i l .add)
 
 -- ---- all steps
 

@@ -3,3 +3,7 @@ pub mod Points
 pub mod Judgements
 pub mod Certain
 pub mod Shallow
+pub mod AskLaws
+pub mod AskedLeaves
+pub mod TriedLaws
+pub mod AskableLaws

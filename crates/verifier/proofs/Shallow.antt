@@ -63,7 +63,7 @@ module _ (f : File) (o : Ordered f) where
   unfolding depth
   depth-node e = settled-node _ 0 (λ a g h k. node-depth g h a (stateSetAt f a) (o .states a) k) e
 
-  progression-node : (e : ℕ) → hasProgression f e ≡ progressionNode (hasProgression f) (stateSetAt f e)
+  pub progression-node : (e : ℕ) → hasProgression f e ≡ progressionNode (hasProgression f) (stateSetAt f e)
   unfolding hasProgression
   progression-node e = settled-node _ false (λ a g h k. node-progression g h a (stateSetAt f a) (o .states a) k) e
 

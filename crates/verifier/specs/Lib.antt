@@ -1,5 +1,6 @@
 pub mod Reply
 pub mod Question
+pub mod Asked
 pub mod Cases
 pub mod Certain
 pub mod Points

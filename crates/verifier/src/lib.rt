@@ -1,5 +1,7 @@
 // The checker of a whole file, and the question whether a state is in a listed set.
 
+pub mod ask;
+
 // The checker's reply: accepted, or document 01's refusal number and place.
 pub enum Reply {
     Accepted,

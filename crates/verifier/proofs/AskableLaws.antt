@@ -1,0 +1,91 @@
+-- When a question is answered, and how.
+-- Assumes nothing.
+use mathlib.Core.Path.{_≡_, refl, sym, ap, ap₂, _∙_}
+use Prim.Native.Nat.{ℕ, _*_, _/_, _^_, _≤_, _<_}
+use native.Mathlib.Omega.{arith}
+use native.Mathlib.Decide.{decLt}
+use native.Mathlib.Nat.{div-eq-of-lt, div-lt-iff-lt-mul}
+use mathlib.Core.Bool.{Bool, true, false, not, _&&_}
+use mathlib.Core.List.{List}
+use lib.ListN.{length}
+use lib.Dec.{T, eqb, ltb, ltb→lt, leb}
+use lib.Pow.{pow-pos}
+use borrow.Author.Tests.{eq-eqb, ne-eqb, lt-ltb, le-ltb, not-true, not-false}
+use Rattle.task.proofs.Tests.{and-left, and-right, holds, is-true}
+use Rattle.certificate.specs.declared.Places.{Places}
+use Rattle.certificate.specs.Result.{refuse, found, need, _>>=_}
+use Rattle.certificate.specs.File.{File}
+use Rattle.certificate.specs.Layout.{readFile}
+use Rattle.certificate.specs.Known.{Known, decoded}
+use Rattle.certificate.proofs.KnownLaws.{known-state-sets, known-facts}
+use Rattle.inclusion.specs.Meaning.{inSet}
+use Rattle.verifier.specs.declared.Answer.the-variants.{Refused}
+use Rattle.verifier.specs.Question.{depth, hasProgression, askable, shallow, answerTo, answerOf}
+use Rattle.verifier.specs.Asked.{answerIn}
+use Rattle.verifier.proofs.Shallow.{shortcut}
+
+-- the part of s from bit n on is 0 where s is below 2 ^ n
+pub high-part : (s n : ℕ) → eqb (s / 2 ^ n) 0 ≡ ltb s (2 ^ n)
+high-part s n =
+    let p = pow-pos n in
+    elim (decLt s (2 ^ n)) [
+      | yes h ↦ eq-eqb (s / 2 ^ n) 0 (div-eq-of-lt h) ∙ sym (lt-ltb s (2 ^ n) h)
+      | no h ↦ ne-eqb (s / 2 ^ n) 0 (λ z.
+          let q : s / 2 ^ n < 1 = omega (arith, z) in
+          let w : s < 1 * 2 ^ n = div-lt-iff-lt-mul p .0 q in
+          omega arith) ∙ sym (le-ltb s (2 ^ n) (omega arith))
+    ]
+
+all-four : (a b c d : Bool) → a ≡ true → (b && (c && d)) ≡ (a && b && c && d)
+all-four true true c d h = refl
+all-four true false c d h = refl
+all-four false b c d h = absurd (holds h)
+
+module _ (bytes : List ℕ) (at : Places) (index : List ℕ) (k : Known bytes at index) (e s : ℕ) where
+  abbrev f : File
+  f = decoded bytes
+
+  -- no such entry; and one that there is
+  pub unknown : at .«state_sets» ≤ e → false ≡ askable f e s
+  unfolding askable
+  unknown l = rw (← known-state-sets bytes at index k, le-ltb e (at .«state_sets») l) refl
+
+  pub known : e < at .«state_sets» → (b c : Bool) → b ≡ ltb s (2 ^ at .facts) → c ≡ shallow f e 4 → (b && c) ≡ askable f e s
+  unfolding askable
+  known l b c p q =
+      ap₂ _&&_ (p ∙ ap (λ (n : ℕ). ltb s (2 ^ n)) (known-facts bytes at index k)) (q ∙ sym (shortcut bytes f (k .read) e))
+      ∙ all-four (ltb e (length (f .stateSets))) (ltb s (2 ^ f .task .facts)) (not (hasProgression f e)) (leb (depth f e) 4)
+      (rw (← known-state-sets bytes at index k) (lt-ltb e (at .«state_sets») l))
+
+  -- what the code's test r tells
+  module _ (r : Bool) (q : r ≡ askable f e s) where
+    yes-asked : not r ≡ false → askable f e s ≡ true
+    yes-asked n = sym q ∙ not-false r n
+
+    pub asked : not r ≡ false → (e < at .«state_sets») × (hasProgression f e ≡ false)
+    unfolding askable
+    asked n =
+        let A : Bool = ltb e (length (f .stateSets)) in
+        let B : Bool = ltb s (2 ^ f .task .facts) in
+        let C : Bool = not (hasProgression f e) in
+        let t : T (A && B && C) = and-left (A && B && C) (leb (depth f e) 4) (holds (yes-asked n)) in
+        let l : e < length (f .stateSets) = ltb→lt e (length (f .stateSets)) (and-left A B (and-left (A && B) C t)) in
+        (rw (known-state-sets bytes at index k) l, not-true (hasProgression f e) (is-true C (and-right (A && B) C t)))
+
+    pub refused : not r ≡ true → Refused 13 0 ≡ answerIn f e s
+    unfolding answerIn answerTo need _>>=_
+    refused n = rw (← q, not-true r n) refl
+
+    pub answered : not r ≡ false → (d : Bool) → d ≡ inSet f e s → (b : Bool) → d ≡ b → answerTo (found b) ≡ answerIn f e s
+    unfolding answerIn need _>>=_
+    answered n d p b h = rw (yes-asked n, ← p, h) refl
+
+-- ---- the same of the file's bytes
+
+pub read-answer : (bytes : List ℕ) (f : File) (e s : ℕ) → readFile bytes ≡ found f → answerIn f e s ≡ answerOf bytes e s
+unfolding answerIn answerOf _>>=_
+read-answer bytes f e s h = rw h refl
+
+pub unread-answer : (bytes : List ℕ) (r p e s : ℕ) → readFile bytes ≡ refuse r p → Refused r p ≡ answerOf bytes e s
+unfolding answerOf answerTo _>>=_
+unread-answer bytes r p e s h = rw h refl

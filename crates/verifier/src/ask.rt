@@ -1,0 +1,140 @@
+// The question whether a state is in an entry's set.
+use crate::Answer;
+use certificate::Places;
+use certificate::StateEntry;
+use certificate::known::action;
+use certificate::known::state_set;
+use inclusion::actions::action_marks;
+use inclusion::listed::leaf_holds;
+use inclusion::marks::is_marked;
+use task::after;
+use task::applies;
+ghost use mathlib.Core.Path.{_≡_};
+ghost use mathlib.Core.Bool.{false};
+ghost use Prim.Native.Nat.{_<_, _^_};
+ghost use lib.Dec.{ltb};
+ghost use Rattle.certificate.specs.Known.{Known, decoded};
+ghost use Rattle.inclusion.specs.Meaning.{inActions, regressed, inSet};
+ghost use Rattle.inclusion.specs.Flat.{numbersOf};
+ghost use Rattle.verifier.specs.Question.{hasProgression, shallow, askable};
+ghost use Rattle.verifier.specs.Asked.{answerIn};
+
+// Whether an entry is at most d levels deep, with no progression on the way.
+fn is_shallow(file: &[u8], at: Places, index: &[u16; 768], e: u16, d: u8) -> bool
+    requires { ⌜ Known (now file) at (now index) ⌝ }
+    ensures { λ r. ⌜ r ≡ shallow (decoded (now (file .entry))) e d ⌝ }
+{
+    if d == 0 {
+        return false;
+    }
+    match state_set(file, at, index, e) {
+        StateEntry::Complement(a) => is_shallow(file, at, index, a, d - 1),
+        StateEntry::Intersection(a, b) => {
+            is_shallow(file, at, index, a, d - 1) & is_shallow(file, at, index, b, d - 1)
+        }
+        StateEntry::Union(a, b) => {
+            is_shallow(file, at, index, a, d - 1) & is_shallow(file, at, index, b, d - 1)
+        }
+        StateEntry::Progression(_, _) => false,
+        StateEntry::Regression(a, _) => is_shallow(file, at, index, a, d - 1),
+        _ => true,
+    }
+}
+
+// An entry's kind, and the place and count of its items, 0 where it has none.
+fn numbers(entry: StateEntry) -> [u32; 3]
+    ensures { λ r. ⌜ r ≡ numbersOf entry ⌝ }
+{
+    match entry {
+        StateEntry::Empty => [0, 0, 0],
+        StateEntry::Init => [1, 0, 0],
+        StateEntry::Goal => [2, 0, 0],
+        StateEntry::Explicit(span) => [3, span.at, span.count as u32],
+        StateEntry::Horn(span) => [4, span.at, span.count as u32],
+        StateEntry::TwoCnf(span) => [5, span.at, span.count as u32],
+        StateEntry::Complement(_) => [6, 0, 0],
+        StateEntry::Intersection(_, _) => [7, 0, 0],
+        StateEntry::Union(_, _) => [8, 0, 0],
+        StateEntry::Progression(_, _) => [9, 0, 0],
+        StateEntry::Regression(_, _) => [10, 0, 0],
+    }
+}
+
+// Whether some action of set a applies in a state and leads into the set of entry e.
+fn try_each_action(file: &[u8], at: Places, index: &[u16; 768], e: u16, a: u16, s: u64) -> bool
+    requires { ⌜ Known (now file) at (now index) ⌝ }
+    requires { ⌜ (hasProgression (decoded (now file)) e ≡ false) × (a < at .«action_sets») ⌝ }
+    ensures { λ r. ⌜ r ≡ regressed (decoded (now (file .entry)) .task) (inSet (decoded (now (file .entry))) e) (inActions (decoded (now (file .entry))) a) s ⌝ }
+{
+    let marks = action_marks(file, at, index, a);
+    let count = at.actions;
+    let mut i = 0u16;
+    while i < count {
+        let act = action(file, at, index, i);
+        if is_marked(marks, i) & applies(act, s) {
+            if member(file, at, index, e, after(act, s)) {
+                return true;
+            }
+        }
+        i += 1;
+    }
+    false
+}
+
+// Whether a state is in the set of entry e, where no progression is at or beneath the entry.
+fn member(file: &[u8], at: Places, index: &[u16; 768], e: u16, s: u64) -> bool
+    requires { ⌜ Known (now file) at (now index) ⌝ }
+    requires { ⌜ hasProgression (decoded (now file)) e ≡ false ⌝ }
+    ensures { λ r. ⌜ r ≡ inSet (decoded (now (file .entry))) e s ⌝ }
+{
+    let entry = state_set(file, at, index, e);
+    match entry {
+        StateEntry::Complement(a) => !member(file, at, index, a, s),
+        StateEntry::Intersection(a, b) => {
+            member(file, at, index, a, s) & member(file, at, index, b, s)
+        }
+        StateEntry::Union(a, b) => member(file, at, index, a, s) | member(file, at, index, b, s),
+        StateEntry::Progression(_, _) => false,
+        StateEntry::Regression(a, b) => try_each_action(file, at, index, a, b, s),
+        _ => {
+            let n = numbers(entry);
+            leaf_holds(file, at.init, at.goal, n[0], n[1], n[2], s)
+        }
+    }
+}
+
+// Whether a state has no fact of n or above.
+fn has_facts_below(n: u8, s: u64) -> bool
+    ensures { λ r. ⌜ r ≡ ltb s (2 ^ n) ⌝ }
+{
+    if n < 64 { s >> n == 0 } else { true }
+}
+
+// Whether a state may be asked about an entry.
+fn is_askable(file: &[u8], at: Places, index: &[u16; 768], entry: u64, state: u64) -> bool
+    requires { ⌜ Known (now file) at (now index) ⌝ }
+    ensures { λ r. ⌜ r ≡ askable (decoded (now (file .entry))) entry state ⌝ }
+{
+    if at.state_sets as u64 <= entry {
+        return false;
+    }
+    has_facts_below(at.facts, state) & is_shallow(file, at, index, entry as u16, 4)
+}
+
+// The answer about a file that was read.
+fn answer(file: &[u8], at: Places, index: &[u16; 768], entry: u64, state: u64) -> Answer
+    requires { ⌜ Known (now file) at (now index) ⌝ }
+    ensures { λ r. ⌜ r ≡ answerIn (decoded (now (file .entry))) entry state ⌝ }
+{
+    if !is_askable(file, at, index, entry, state) {
+        return Answer::Refused {
+            number: 13,
+            place: 0,
+        };
+    }
+    if member(file, at, index, entry as u16, state) {
+        Answer::In
+    } else {
+        Answer::Out
+    }
+}
