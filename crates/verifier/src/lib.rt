@@ -1,4 +1,19 @@
 // The checker of a whole file, and the question whether a state is in a listed set.
+use certificate::Outline;
+use certificate::Places;
+use certificate::known::fields;
+use certificate::layout::read_layout;
+use certificate::views::index_file;
+use derivation::reply::StepReply;
+use derivation::reply::check_step;
+ghost use mathlib.Core.Path.{_≡_};
+ghost use Rattle.task.specs.Reach.{Safe};
+ghost use Rattle.certificate.specs.Result.{found};
+ghost use Rattle.certificate.specs.File.{File};
+ghost use Rattle.certificate.specs.Layout.{readFile};
+ghost use Rattle.certificate.specs.Known.{Known, decoded};
+ghost use Rattle.verifier.specs.Reply.{checkFile, replyTo, replyOf};
+ghost use Rattle.verifier.specs.Replied.{lastStep, Passing};
 
 pub mod ask;
 
@@ -13,4 +28,46 @@ pub enum Answer {
     In,
     Out,
     Refused { number: u8, place: u32 },
+}
+
+// Whether the last step says "unsolvable".
+fn last_step(file: &[u8], at: Places, index: &[u16; 768]) -> Reply
+    requires { ⌜ Known (now file) at (now index) ⌝ }
+    ensures { λ r. ⌜ r ≡ replyTo (lastStep (decoded (now (file .entry)))) ⌝ }
+{
+    let last = at.steps - 1;
+    let x = fields(file, at, index, last);
+    if x.kind == 3 {
+        Reply::Accepted
+    } else {
+        Reply::Refused {
+            number: 12,
+            place: last as u32,
+        }
+    }
+}
+
+// The steps in turn, and then whether the last one says "unsolvable".
+fn check_steps(file: &[u8], at: Places, index: &[u16; 768]) -> Reply
+    requires { ⌜ Known (now file) at (now index) ⌝ }
+    ensures { λ r. ⌜ r ≡ replyTo (checkFile (decoded (now (file .entry)))) ⌝ }
+{
+    let count = at.steps;
+    let mut k = 0u16;
+    while k < count
+        invariant { ⌜ k ≤ count ⌝ }
+        invariant { ⌜ Passing (decoded (now file)) k ⌝ }
+    {
+        match check_step(file, at, index, k) {
+            StepReply::Passed => {}
+            StepReply::Refused(number) => {
+                return Reply::Refused {
+                    number,
+                    place: k as u32,
+                };
+            }
+        }
+        k += 1;
+    }
+    last_step(file, at, index)
 }
