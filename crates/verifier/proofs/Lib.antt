@@ -7,3 +7,4 @@ pub mod AskLaws
 pub mod AskedLeaves
 pub mod TriedLaws
 pub mod AskableLaws
+pub mod CheckLaws

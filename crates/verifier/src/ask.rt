@@ -1,9 +1,12 @@
 // The question whether a state is in an entry's set.
 use crate::Answer;
+use certificate::Outline;
 use certificate::Places;
 use certificate::StateEntry;
 use certificate::known::action;
 use certificate::known::state_set;
+use certificate::layout::read_layout;
+use certificate::views::index_file;
 use inclusion::actions::action_marks;
 use inclusion::listed::leaf_holds;
 use inclusion::marks::is_marked;
@@ -16,7 +19,7 @@ ghost use lib.Dec.{ltb};
 ghost use Rattle.certificate.specs.Known.{Known, decoded};
 ghost use Rattle.inclusion.specs.Meaning.{inActions, regressed, inSet};
 ghost use Rattle.inclusion.specs.Flat.{numbersOf};
-ghost use Rattle.verifier.specs.Question.{hasProgression, shallow, askable};
+ghost use Rattle.verifier.specs.Question.{hasProgression, shallow, askable, answerOf};
 ghost use Rattle.verifier.specs.Asked.{answerIn};
 
 // Whether an entry is at most d levels deep, with no progression on the way.
@@ -136,5 +139,20 @@ fn answer(file: &[u8], at: Places, index: &[u16; 768], entry: u64, state: u64) -
         Answer::In
     } else {
         Answer::Out
+    }
+}
+
+// Whether a state is in the set of an entry of a file.
+pub fn ask(file: &[u8], entry: u64, state: u64) -> Answer
+    ensures answer { λ r. ⌜ r ≡ answerOf (now (file .entry)) entry state ⌝ }
+    ensures untouched { λ r. ⌜ now (file .exit) ≡ now (file .entry) ⌝ }
+{
+    match read_layout(file) {
+        Outline::Refused { number, place } => Answer::Refused { number, place },
+        Outline::Lawful(at) => {
+            let mut index = [0u16; 768];
+            index_file(file, at, &mut index);
+            answer(file, at, &index, entry, state)
+        }
     }
 }

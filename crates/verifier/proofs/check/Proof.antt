@@ -1,0 +1,38 @@
+-- `check` meets its contract: a file that is not read is refused as the layout check says, and one that is read by its steps; an accepted
+-- file is safe.
+-- Assumes nothing.
+use mathlib.Core.Path.{sym, _∙_, refl}
+use borrow.Author.Needs.{needs}
+use Rattle.verifier.proofs.Judgements.{accepted-is-safe}
+use Rattle.verifier.proofs.CheckLaws.{lawful-known, refused-read, read-reply, unread-reply}
+use Rattle.verifier.proofs.check.Statement.{statement}
+use Rattle.verifier.proofs.check.Tie as tie
+
+check-steps-requires : tie.Need-check-steps-requires
+check-steps-requires c κs =
+    let a = c .before .before .before .before in
+    lawful-known _ (a .before .before .read-layout .ensures) _ _ (a .at .given .1) (c .before .index-file .ensures)
+
+returns : tie.Need-returns
+returns c =
+    let e = unread-reply _ _ _ (refused-read _ (c .before .before .before .read-layout .ensures) _ _ (c .before .number .given .1)) in
+    (e, (refl, λ y. accepted-is-safe _ (sym e ∙ y)))
+
+returns-2 : tie.Need-returns-2
+returns-2 c =
+    let a = c .before .before .before .before .before in
+    let k = lawful-known _ (a .before .before .read-layout .ensures) _ _ (a .at .given .1) (c .before .before .index-file .ensures) in
+    let e = c .check-steps .ensures ∙ read-reply _ (k .read) in
+    (e, (refl, λ y. accepted-is-safe _ (sym e ∙ y)))
+
+pub check-spec : {M : Type 1} → statement M
+check-spec =
+    tie.close
+    (tie.spec
+    (λ c κs. search needs)
+    (λ c. search needs)
+    (λ c. search needs)
+    (λ c κs. search needs)
+    check-steps-requires
+    returns
+    returns-2)
