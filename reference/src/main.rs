@@ -5,10 +5,10 @@ use std::process::ExitCode;
 
 use reference::generate::limits::workload;
 use reference::generate::random::Random;
-use reference::generate::{cases, Case};
+use reference::generate::{cases, damaged, Case};
 use reference::{ask, assemble, check, show};
 
-const USAGE: &str = "usage: reference check FILE | ask FILE ENTRY STATE | gen SEED COUNT | replies | pack | \
+const USAGE: &str = "usage: reference check FILE | ask FILE ENTRY STATE | gen SEED COUNT | damaged FILE SEED COUNT | replies | pack | \
 assemble TEXTFILE | show FILE | workload NUMBER SEED   (FILE may be - for standard input)";
 
 /// What stops a command: a wrong call, or a message.
@@ -50,6 +50,11 @@ fn run(words: &[&str]) -> Result<(), Stop> {
         }
         ["gen", seed, count] => {
             for case in cases(number(seed)?, number(count)?) {
+                writeln!(out, "{}", case.line())?;
+            }
+        }
+        ["damaged", file, seed, count] => {
+            for case in damaged(&read(file)?, number(seed)?, number(count)?) {
                 writeln!(out, "{}", case.line())?;
             }
         }

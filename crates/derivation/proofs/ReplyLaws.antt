@@ -92,9 +92,10 @@ module _ (f : File) (i : ℕ) (s : Step) where
       let w : T (wellFormed f i s 2 0) = subst (λ (n : ℕ). T (formedUnder f i s (ruleAt f n))) e t in
       let a = s .left in let b = s .right in
       let x : T (ltb a (length (f .actionSets)) && ltb b (length (f .actionSets))) =
-          and-right (eqb (s .kind) 2) _ (and-left (eqb (s .kind) 2 && (ltb a (length (f .actionSets)) && ltb b (length (f .actionSets)))) _ (and-left (eqb (s .kind) 2 && (ltb a (length (f .actionSets)) && ltb b (length (f .actionSets))) && every (λ p. ltb p i) (take 0 (s .premises))) (every (λ p. eqb p 0) (drop 0 (s .premises))) w)) in
-      (ltb→lt a (length (f .actionSets)) (and-left (ltb a (length (f .actionSets))) (ltb b (length (f .actionSets))) x),
-      ltb→lt b (length (f .actionSets)) (and-right (ltb a (length (f .actionSets))) (ltb b (length (f .actionSets))) x))
+      and-right (eqb (s .kind) 2) _ (and-left (eqb (s .kind) 2 && (ltb a (length (f .actionSets)) && ltb b (length (f .actionSets)))) _ (and-left (eqb (s .kind) 2 && (ltb a (length (f .actionSets)) && ltb b (length (f .actionSets))) && every (λ p. ltb p i) (take 0 (s .premises))) (every (λ p. eqb p 0) (drop 0 (s .premises))) w)) in (
+        ltb→lt a (length (f .actionSets)) (and-left (ltb a (length (f .actionSets))) (ltb b (length (f .actionSets))) x),
+        ltb→lt b (length (f .actionSets)) (and-right (ltb a (length (f .actionSets))) (ltb b (length (f .actionSets))) x),
+      )
 
 -- ---- from what the code read of step k, which is well formed
 
@@ -110,11 +111,13 @@ module _ (f : File) (k : ℕ) {w : Bool} {x : Fields} (fits : w ≡ true) (told 
       let r : x .rule ≡ stepAt f k .rule = ap (λ (y : Fields). y .rule) e in
       let a : x .left ≡ stepAt f k .left = ap (λ (y : Fields). y .left) e in
       let b : x .right ≡ stepAt f k .right = ap (λ (y : Fields). y .right) e in
-      let l = rule-some f k (stepAt f k) (holds passed) in
-      ((omega arith, h), (λ (five : x .rule ≡ 5).
-      let n = action-entries f k (stepAt f k) (holds passed) (sym r ∙ five) in
-      let n0 = n .0 in let n1 = n .1 in
-      (omega arith, omega arith)))
+      let l = rule-some f k (stepAt f k) (holds passed) in (
+        (omega arith, h),
+        (λ (five : x .rule ≡ 5).
+            let n = action-entries f k (stepAt f k) (holds passed) (sym r ∙ five) in
+            let n0 = n .0 in let n1 = n .1 in
+            (omega arith, omega arith)),
+      )
 
   pub statement-reply : {v : Verdict} {r : StepReply} → x .rule ≤ 5 → v ≡ verdictOf f (x .rule) (x .left) (x .right) → r ≡ verdictReply v → r ≡ stepReply (checkStep f k (stepAt f k))
   unfolding fieldsOf

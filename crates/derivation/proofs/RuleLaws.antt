@@ -1,6 +1,6 @@
 -- How a rule's match computes: a chain of tests, one after the other. A judgement of another kind matches nothing.
 -- Assumes nothing.
-use mathlib.Core.Path.{_≡_, refl, sym}
+use mathlib.Core.Path.{_≡_, refl, sym, ap, _∙_}
 use Prim.Native.Nat.{ℕ, zero, suc, _<_}
 use native.Mathlib.Nat.{not-suc-le-zero, le-of-suc-le-suc}
 use mathlib.Core.Bool.{Bool, true, false, not, _&&_}
@@ -54,6 +54,10 @@ and-comm false b = sym (and-false b)
 pub and-swap : (a b c : Bool) → (a && (b && c)) ≡ (b && (a && c))
 and-swap true b c = refl
 and-swap false b c = sym (and-false b)
+
+pub move-last : (a b c d e : Bool) → (a && (b && (c && (d && e)))) ≡ (b && (c && (d && (a && e))))
+move-last true b c d e = refl
+move-last false b c d e = sym (ap (λ (t : Bool). b && (c && t)) (and-false d) ∙ ap (λ (t : Bool). b && t) (and-false c) ∙ and-false b)
 
 same-tests : (a b : Bool) → (T a → T b) → (T b → T a) → a ≡ b
 same-tests true true h k = refl

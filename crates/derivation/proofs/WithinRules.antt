@@ -8,9 +8,9 @@ use lib.Dec.{eqb}
 use Rattle.certificate.specs.declared.Judgement.{Judgement}
 use Rattle.certificate.specs.declared.Judgement.the-variants.{Within, ActionsWithin}
 use Rattle.certificate.specs.File.{either, complement, intersection, union, progression, regression, File, actionSetAt, stateSetAt, first, second}
-use Rattle.derivation.specs.Tests.{namingBoth}
+use Rattle.derivation.specs.Tests.{ofSort, naming, namingBoth}
 use Rattle.derivation.specs.Derives.{ruleNumbered, follows}
-use Rattle.derivation.proofs.RuleLaws.{and-comm, and-swap, eqb-comm, chain, opened}
+use Rattle.derivation.proofs.RuleLaws.{and-comm, and-swap, move-last, eqb-comm, chain, opened}
 
 module _ (f : File) where
   -- 15 UR: S<S+U
@@ -86,13 +86,13 @@ module _ (f : File) where
   pu hj hp hq h1 h2 = simp (hj, hp, hq, h1, h2, chain)
 
   -- 27 PR: S[A]<U; [A]~U<~S
-  pub pr : {j p : Judgement} {e r l v x a u s : ℕ} → j ≡ Within e r → p ≡ Within l v → stateSetAt f e ≡ regression x a → stateSetAt f x ≡ complement u → stateSetAt f r ≡ complement s
-      → (namingBoth f 9 l s a && eqb v u) ≡ follows f (ruleNumbered 27) j (p ∷ [])
+  pub pr : {j p : Judgement} {e r l u x a s : ℕ} → j ≡ Within e r → p ≡ Within l u → stateSetAt f e ≡ regression x a → stateSetAt f r ≡ complement s
+      → (namingBoth f 9 l s a && naming f 6 x u) ≡ follows f (ruleNumbered 27) j (p ∷ [])
   unfolding opened
-  pr hj hp h1 h2 h3 = simp (hj, hp, h1, h2, h3, chain)
+  pr {l = l} {u = u} {x = x} {a = a} {s = s} hj hp h1 h2 = simp (hj, hp, h1, h2, eqb-comm u (first (stateSetAt f x)), move-last (ofSort f 6 x) (ofSort f 9 l) (eqb (first (stateSetAt f l)) s) (eqb (second (stateSetAt f l)) a) (eqb (first (stateSetAt f x)) u), chain)
 
   -- 28 RP: [A]S<U; (~U)[A]<~S
-  pub rp : {j p : Judgement} {e r l v x a u s : ℕ} → j ≡ Within e r → p ≡ Within l v → stateSetAt f e ≡ progression x a → stateSetAt f x ≡ complement u → stateSetAt f r ≡ complement s
-      → (namingBoth f 10 l s a && eqb v u) ≡ follows f (ruleNumbered 28) j (p ∷ [])
+  pub rp : {j p : Judgement} {e r l u x a s : ℕ} → j ≡ Within e r → p ≡ Within l u → stateSetAt f e ≡ progression x a → stateSetAt f r ≡ complement s
+      → (namingBoth f 10 l s a && naming f 6 x u) ≡ follows f (ruleNumbered 28) j (p ∷ [])
   unfolding opened
-  rp hj hp h1 h2 h3 = simp (hj, hp, h1, h2, h3, chain)
+  rp {l = l} {u = u} {x = x} {a = a} {s = s} hj hp h1 h2 = simp (hj, hp, h1, h2, eqb-comm u (first (stateSetAt f x)), move-last (ofSort f 6 x) (ofSort f 10 l) (eqb (first (stateSetAt f l)) s) (eqb (second (stateSetAt f l)) a) (eqb (first (stateSetAt f x)) u), chain)

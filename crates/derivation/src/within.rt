@@ -1,4 +1,5 @@
 // The rules 15 to 28: a state set is within another.
+use crate::entries::is_complement;
 use crate::entries::is_intersection;
 use crate::entries::is_progression;
 use crate::entries::is_regression;
@@ -257,19 +258,16 @@ fn pr(file: &[u8], at: Places, index: &[u16; 768], j: Judgement, p: Judgement) -
     let Judgement::Within(e, r) = j else {
         return false;
     };
-    let Judgement::Within(l, v) = p else {
+    let Judgement::Within(l, u) = p else {
         return false;
     };
     let StateEntry::Regression(x, a) = state_set(file, at, index, e) else {
         return false;
     };
-    let StateEntry::Complement(u) = state_set(file, at, index, x) else {
-        return false;
-    };
     let StateEntry::Complement(s) = state_set(file, at, index, r) else {
         return false;
     };
-    is_progression(file, at, index, l, s, a) & (v == u)
+    is_progression(file, at, index, l, s, a) & is_complement(file, at, index, x, u)
 }
 
 // 28 RP: [A]S<U; (~U)[A]<~S.
@@ -280,19 +278,16 @@ fn rp(file: &[u8], at: Places, index: &[u16; 768], j: Judgement, p: Judgement) -
     let Judgement::Within(e, r) = j else {
         return false;
     };
-    let Judgement::Within(l, v) = p else {
+    let Judgement::Within(l, u) = p else {
         return false;
     };
     let StateEntry::Progression(x, a) = state_set(file, at, index, e) else {
         return false;
     };
-    let StateEntry::Complement(u) = state_set(file, at, index, x) else {
-        return false;
-    };
     let StateEntry::Complement(s) = state_set(file, at, index, r) else {
         return false;
     };
-    is_regression(file, at, index, l, s, a) & (v == u)
+    is_regression(file, at, index, l, s, a) & is_complement(file, at, index, x, u)
 }
 
 // Whether a judgement follows by a rule of 15 to 19, which have no premises.

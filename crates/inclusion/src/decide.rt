@@ -1,14 +1,14 @@
 // The verdict on a basic statement: its leaves are gathered, and then its truth is decided by listed states or by clauses.
+use crate::Verdict;
 use crate::actions::action_marks;
 use crate::actions::actions_within;
 use crate::clauses::refuted;
 use crate::listed::shown;
 use crate::marks::is_marked;
-use crate::shape::gather;
 use crate::shape::Gathered;
-use crate::Verdict;
-use certificate::known::action;
+use crate::shape::gather;
 use certificate::Places;
+use certificate::known::action;
 use task::Action;
 ghost use mathlib.Core.Path.{_≡_};
 ghost use mathlib.Core.Logic.{_↔_};
@@ -114,7 +114,11 @@ fn is_countered(
 fn verdict(untrue: bool) -> Verdict
     ensures { λ r. ⌜ r ≡ verdictBut untrue ⌝ }
 {
-    if untrue { Verdict::Untrue } else { Verdict::Holds }
+    if untrue {
+        Verdict::Untrue
+    } else {
+        Verdict::Holds
+    }
 }
 
 // The verdict on rule 1 to 5 at entries e and d.

@@ -76,6 +76,21 @@ pub fn cases(seed: u64, count: u64) -> impl Iterator<Item = Case> {
     (0..count).map(move |index| case(&mut Random::for_case(seed, index)))
 }
 
+/// Every shorter beginning of a file, and as many strings of random bytes, half of them with a fitting length field.
+pub fn damaged(bytes: &[u8], seed: u64, count: u64) -> impl Iterator<Item = Case> + '_ {
+    let cut = (0..bytes.len()).map(|length| bytes[..length].to_vec());
+    let noise = (0..count).map(move |index| {
+        let mut random = Random::for_case(seed, index);
+        let mut bytes: Vec<u8> = (0..random.below(600)).map(|_| random.next() as u8).collect();
+        if random.chance(50) && bytes.len() >= 4 {
+            let rest = bytes.len() as u32 - 4;
+            bytes[..4].copy_from_slice(&rest.to_be_bytes());
+        }
+        bytes
+    });
+    cut.chain(noise).map(|bytes| Case { question: None, bytes })
+}
+
 fn case(random: &mut Random) -> Case {
     let bytes = match random.below(200) {
         0..=45 => certificate(random).encode(),

@@ -1,7 +1,7 @@
 -- `within::pr` meets its contract: PR's tests in turn, and nothing matches a judgement or an entry of another kind.
 -- Assumes nothing.
 use borrow.Author.Needs.{needs}
-use Rattle.derivation.proofs.RuleLaws.{listed, opened, other-said}
+use Rattle.derivation.proofs.RuleLaws.{chain, listed, opened, other-said}
 use Rattle.derivation.proofs.WithinRules.{pr}
 use Rattle.derivation.proofs.Views.{other, taken}
 use Rattle.derivation.proofs.within.pr.Statement.{statement}
@@ -21,30 +21,17 @@ returns-4 c =
     let t1 = taken _ _ (s1 .before .before .state-set .ensures) (s1 .x .given .1) in
     let s2 = s1 .before .before .before .before in
     let s3 = s2 .before .before .before in
-    simp (s3 .j .given .1, s2 .p .given .1, t1, other _ _ (c .before .state-set2 .ensures) 6 tt (c .match4 .keys2))
+    simp (s3 .j .given .1, s2 .p .given .1, t1, other _ _ (c .before .state-set2 .ensures) 6 tt (c .match4 .keys2), chain)
 
 returns-5 : tie.Need-returns-5
-unfolding opened
 returns-5 c =
     let s1 = c .before .before .before in
-    let t1 = taken _ _ (s1 .before .before .state-set2 .ensures) (s1 .u .given .1) in
+    let t1 = taken _ _ (s1 .before .before .state-set2 .ensures) (s1 .s .given .1) in
     let s2 = s1 .before .before .before .before in
     let t2 = taken _ _ (s2 .before .before .state-set .ensures) (s2 .x .given .1) in
     let s3 = s2 .before .before .before .before in
     let s4 = s3 .before .before .before in
-    simp (s4 .j .given .1, s3 .p .given .1, t2, t1, other _ _ (c .before .state-set3 .ensures) 6 tt (c .match5 .keys2))
-
-returns-6 : tie.Need-returns-6
-returns-6 c =
-    let s1 = c .before .before in
-    let t1 = taken _ _ (s1 .before .before .state-set3 .ensures) (s1 .s .given .1) in
-    let s2 = s1 .before .before .before .before in
-    let t2 = taken _ _ (s2 .before .before .state-set2 .ensures) (s2 .u .given .1) in
-    let s3 = s2 .before .before .before .before in
-    let t3 = taken _ _ (s3 .before .before .state-set .ensures) (s3 .x .given .1) in
-    let s4 = s3 .before .before .before .before in
-    let s5 = s4 .before .before .before in
-    rw (c .is-progression .ensures) (pr _ (s5 .j .given .1) (s4 .p .given .1) t3 t2 t1)
+    rw (c .before .is-progression .ensures, c .is-complement .ensures) (pr _ (s4 .j .given .1) (s3 .p .given .1) t2 t1)
 
 pub pr-spec : {M : Type 1} → statement M
 unfolding listed
@@ -62,7 +49,5 @@ pr-spec =
     (λ c. search needs)
     returns-4
     (λ c κs. search needs)
-    (λ c. search needs)
-    returns-5
     (λ c κs. search needs)
-    returns-6)
+    returns-5)

@@ -58,8 +58,8 @@ returns c =
     let f : File = decoded (s .args .file .now) in
     let l : i < length (decoded (s .args .file .now) .task .actions) = omega arith in
     let t : T (inActions (decoded (s .args .file .now)) (s .args .g .actions) i) =
-        subst T (c .before .before .before .before .is-marked .ensures ∙ c .before .before .before .before .before .before .before .action-marks .ensures i (omega arith))
-        (subst T (sym (c .before .before .before .if1 .taken)) tt) in
+    subst T (c .before .before .before .before .is-marked .ensures ∙ c .before .before .before .before .before .before .before .action-marks .ensures i (omega arith))
+    (subst T (sym (c .before .before .before .if1 .taken)) tt) in
     ((λ _. some-found f (s .args .g .actions) (leftOf f (s .args .rule) (s .args .e) (s .args .d)) (rightOf f (s .args .rule) (s .args .e) (s .args .d)) i _ _ l t (c .before .before .action .ensures) (c .before .one-refutes .ensures) (c .if2 .taken)), λ _. tt)
 
 add-i : tie.Need-add-i Inv-loop μ-loop
@@ -76,9 +76,9 @@ loop-again c =
       omega arith,
       refl,
       ⊎-elim
-      (λ w. none-tried _ _ _ (v .2) (w .1 .ensures) (w .2 .ensures) (w .3 .left))
-      (λ w. none-skipped _ _ _ (v .2) (c .before .is-marked .ensures) (c .before .before .before .before .action-marks .ensures _ (omega arith)) (w .left))
-      (c .if1 .came),
+          (λ w. none-tried _ _ _ (v .2) (w .1 .ensures) (w .2 .ensures) (w .3 .left))
+          (λ w. none-skipped _ _ _ (v .2) (c .before .is-marked .ensures) (c .before .before .before .before .action-marks .ensures _ (omega arith)) (w .left))
+          (c .if1 .came),
     )
 
 returns-2 : tie.Need-returns-2 Inv-loop μ-loop
