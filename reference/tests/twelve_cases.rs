@@ -1,4 +1,4 @@
-//! The twelve cases of document 01, each a change of the sample.
+//! The twelve cases of document 01, each a change of the sample; `samples/cases` has them as files.
 
 use reference::draft::{sample, Draft, DraftSet};
 use reference::file::Clause;
@@ -37,8 +37,13 @@ fn the_twelve_cases() {
         (appended(), "refused 1 0"),
         (Vec::new(), "refused 1 0"),
     ];
+    let replies = include_str!("../../samples/cases/replies");
+    assert_eq!(replies.lines().count(), table.len());
     for (number, (bytes, reply)) in table.iter().enumerate() {
         assert_eq!(&check(bytes).to_string(), reply, "case {}", number + 1);
+        let file = format!("{}/../samples/cases/{:02}.cert", env!("CARGO_MANIFEST_DIR"), number + 1);
+        assert_eq!(&std::fs::read(&file).unwrap(), bytes, "{file}");
+        assert_eq!(replies.lines().nth(number), Some(*reply), "line {}", number + 1);
     }
     assert_eq!(table[4].0.len(), 226);
 }

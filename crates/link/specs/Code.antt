@@ -1,0 +1,20 @@
+-- Replies and answers as one number. A refusal's number is at least 1, so its code is none of 0 and 1.
+-- Assumes nothing.
+use Prim.Native.Nat.{ℕ, _+_, _*_}
+use Rattle.verifier.specs.declared.Reply.{Reply}
+use Rattle.verifier.specs.declared.Reply.the-variants.{Accepted, Refused}
+use Rattle.verifier.specs.declared.Answer.{Answer}
+use Rattle.verifier.specs.declared.Answer.the-variants as answer
+
+-- the number above the 32 bits of the place
+unfoldable pub refusalCode : ℕ → ℕ → ℕ
+refusalCode number place = number * 4294967296 + place
+
+unfoldable pub codeOf : Reply → ℕ
+codeOf Accepted = 0
+codeOf (Refused number place) = refusalCode number place
+
+unfoldable pub answerCodeOf : Answer → ℕ
+answerCodeOf answer.Out = 0
+answerCodeOf answer.In = 1
+answerCodeOf (answer.Refused number place) = refusalCode number place

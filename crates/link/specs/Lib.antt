@@ -1,0 +1,2 @@
+-- The specs of `link`.
+pub mod Code

@@ -1,0 +1,41 @@
+// The checker and the question for programs in C or Rust: each reply as one number.
+use verifier::Answer;
+use verifier::Reply;
+use verifier::ask::ask;
+use verifier::check;
+ghost use mathlib.Core.Path.{_≡_};
+ghost use Rattle.verifier.specs.Reply.{replyOf};
+ghost use Rattle.verifier.specs.Question.{answerOf};
+ghost use Rattle.link.specs.Code.{refusalCode, codeOf, answerCodeOf};
+
+// A refusal as one number: the refusal number above the 32 bits of the place.
+fn refusal_code(number: u8, place: u32) -> u64
+    ensures { λ r. ⌜ r ≡ refusalCode number place ⌝ }
+{
+    number as u64 * 4294967295 + place as u64
+}
+
+// Whether a file's certificate shows that its task is safe: 0 where it does, else the refusal.
+#[no_mangle]
+pub extern "C" fn certificate_check(file: &[u8]) -> u64
+    ensures code { λ r. ⌜ r ≡ codeOf (replyOf (now (file .entry))) ⌝ }
+    ensures untouched { λ r. ⌜ now (file .exit) ≡ now (file .entry) ⌝ }
+{
+    match check(file) {
+        Reply::Accepted => 0,
+        Reply::Refused { number, place } => refusal_code(number, place),
+    }
+}
+
+// Whether a state is in the set of an entry of a file: 0 where it is out, 1 where it is in, else the refusal.
+#[no_mangle]
+pub extern "C" fn certificate_ask(file: &[u8], entry: u64, state: u64) -> u64
+    ensures code { λ r. ⌜ r ≡ answerCodeOf (answerOf (now (file .entry)) entry state) ⌝ }
+    ensures untouched { λ r. ⌜ now (file .exit) ≡ now (file .entry) ⌝ }
+{
+    match ask(file, entry, state) {
+        Answer::Out => 0,
+        Answer::In => 1,
+        Answer::Refused { number, place } => refusal_code(number, place),
+    }
+}

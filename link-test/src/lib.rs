@@ -1,0 +1,41 @@
+//! The proved checker from Rust, by its C names (`crates/link`).
+
+use reference::{Answer, Reply};
+
+extern "C" {
+    fn certificate_check(file: *const u8, length: usize) -> u64;
+    fn certificate_ask(file: *const u8, length: usize, entry: u64, state: u64) -> u64;
+}
+
+/// The code of the proved checker's reply.
+pub fn check(file: &[u8]) -> u64 {
+    // It requires nothing of the bytes, reads no others and keeps nothing.
+    unsafe { certificate_check(file.as_ptr(), file.len()) }
+}
+
+/// The code of the proved checker's answer.
+pub fn ask(file: &[u8], entry: u64, state: u64) -> u64 {
+    // As above.
+    unsafe { certificate_ask(file.as_ptr(), file.len(), entry, state) }
+}
+
+/// A reply's code, as `certificate.h` says it.
+pub fn reply_code(reply: Reply) -> u64 {
+    match reply {
+        Reply::Accepted => 0,
+        Reply::Refused { number, place } => refusal_code(number, place),
+    }
+}
+
+/// An answer's code, as `certificate.h` says it.
+pub fn answer_code(answer: Answer) -> u64 {
+    match answer {
+        Answer::Out => 0,
+        Answer::In => 1,
+        Answer::Refused { number, place } => refusal_code(number, place),
+    }
+}
+
+fn refusal_code(number: u8, place: u32) -> u64 {
+    (number as u64) << 32 | place as u64
+}

@@ -1,0 +1,115 @@
+//! The linked checker replies as the reference checker does.
+
+use link_test::{answer_code, ask, check, reply_code};
+use reference::generate::cases;
+use reference::generate::random::Random;
+
+/// Both checkers on one file.
+fn same_reply(file: &[u8], what: &str) -> u64 {
+    let code = check(file);
+    assert_eq!(code, reply_code(reference::check(file)), "{what}: {file:02x?}");
+    code
+}
+
+/// Both checkers on one question.
+fn same_answer(file: &[u8], entry: u64, state: u64, what: &str) -> u64 {
+    let code = ask(file, entry, state);
+    let expected = answer_code(reference::ask(file, entry, state));
+    assert_eq!(code, expected, "{what}: entry {entry}, state {state}: {file:02x?}");
+    code
+}
+
+fn sample(name: &str) -> Vec<u8> {
+    let path = format!("{}/../samples/{name}.cert", env!("CARGO_MANIFEST_DIR"));
+    std::fs::read(path).expect("a sample file")
+}
+
+/// Each generated file is checked, and asked about whether or not its case is a question.
+#[test]
+fn generated_cases() {
+    let mut refused = [0; 14];
+    let (mut accepted, mut inside, mut outside) = (0, 0, 0);
+    let mut random = Random::new(3);
+    for (index, case) in cases(2, 4000).enumerate() {
+        let what = format!("case {index}");
+        match same_reply(&case.bytes, &what) {
+            0 => accepted += 1,
+            code => refused[(code >> 32) as usize] += 1,
+        }
+        let other = (random.below(12) as u64, random.below(16) as u64);
+        let (entry, state) = case.question.unwrap_or(other);
+        match same_answer(&case.bytes, entry, state, &what) {
+            0 => outside += 1,
+            1 => inside += 1,
+            code => refused[(code >> 32) as usize] += 1,
+        }
+    }
+    assert!(accepted >= 500 && inside >= 200 && outside >= 200, "{accepted} {inside} {outside}");
+    assert!(refused[1..].iter().all(|count| *count >= 5), "{refused:?}");
+}
+
+/// Random bytes, plain and with a true length field and version.
+#[test]
+fn random_bytes() {
+    let mut random = Random::new(5);
+    for length in (0..600).chain([65_535, 65_536, 65_537, 100_000]) {
+        let mut file: Vec<u8> = (0..length).map(|_| random.next() as u8).collect();
+        same_reply(&file, "random");
+        if length >= 5 {
+            file[..4].copy_from_slice(&(length as u32 - 4).to_be_bytes());
+            same_reply(&file, "random with a length");
+            file[4] = 1;
+            same_reply(&file, "random with a length and version");
+            same_answer(&file, random.below(8) as u64, random.next(), "random");
+        }
+    }
+}
+
+/// Every truncation of the sample, as it is and with its length field made true.
+#[test]
+fn truncations() {
+    let file = sample("sample");
+    assert_eq!(check(&file), 0);
+    for length in 0..file.len() {
+        let mut part = file[..length].to_vec();
+        assert_ne!(same_reply(&part, "cut"), 0);
+        same_answer(&part, 0, 0, "cut");
+        if length >= 4 {
+            part[..4].copy_from_slice(&(length as u32 - 4).to_be_bytes());
+            assert_ne!(same_reply(&part, "cut with a length"), 0);
+            same_answer(&part, 0, 0, "cut with a length");
+        }
+    }
+}
+
+/// Every sample with each byte changed, and every question about entries and states near those that it has.
+#[test]
+fn samples() {
+    let names = [
+        "sample",
+        "horn",
+        "two_literal",
+        "two_lists",
+        "regression",
+        "listed_actions_refused_9",
+        "false_actions_refused_11",
+    ];
+    for name in names {
+        let mut file = sample(name);
+        same_reply(&file, name);
+        for entry in 0..20 {
+            for state in (0..64).chain([u64::MAX]) {
+                same_answer(&file, entry, state, name);
+            }
+        }
+        for at in 0..file.len() {
+            let byte = file[at];
+            for change in [1, 2, 4, 8, 16, 32, 64, 128, 255] {
+                file[at] = byte ^ change;
+                same_reply(&file, name);
+                same_answer(&file, 3, 1, name);
+            }
+            file[at] = byte;
+        }
+    }
+}
