@@ -1,4 +1,4 @@
--- Replies and answers as one number. A refusal's number is at least 1, so its code is none of 0 and 1.
+-- Replies and answers as one number. Document 01's refusal numbers start at 1, so no refusal's code is 0 or 1.
 -- Assumes nothing.
 use Prim.Native.Nat.{ℕ, _+_, _*_}
 use Rattle.verifier.specs.declared.Reply.{Reply}

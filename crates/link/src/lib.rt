@@ -12,7 +12,7 @@ ghost use Rattle.link.specs.Code.{refusalCode, codeOf, answerCodeOf};
 fn refusal_code(number: u8, place: u32) -> u64
     ensures { λ r. ⌜ r ≡ refusalCode number place ⌝ }
 {
-    number as u64 * 4294967295 + place as u64
+    number as u64 * 4294967296 + place as u64
 }
 
 // Whether a file's certificate shows that its task is safe: 0 where it does, else the refusal.
