@@ -11,10 +11,10 @@ use borrow.Author.Tests.{le-leb, lt-leb, lt-ltb, leb-true, leb-false, not-true, 
 use Rattle.certificate.specs.declared.layout.Form.{Form}
 use Rattle.certificate.specs.declared.layout.Verdict.{Verdict}
 use Rattle.certificate.specs.declared.layout.Verdict.the-variants.{Fine, Refused}
-use Rattle.certificate.specs.declared.Clause.{Clause}
-use Rattle.certificate.specs.Result.{Result, refuse, found}
+use Rattle.meaning.specs.declared.Clause.{Clause}
+use Rattle.meaning.specs.Result.{Result, refuse, found}
 use Rattle.certificate.specs.Views.{numberAt}
-use Rattle.certificate.specs.Layout.{items, ascending, mask, clause}
+use Rattle.meaning.specs.Layout.{items, ascending, mask, clause}
 use Rattle.certificate.specs.Verdicts.{verdictFrom, ruleOf, formFits, formBody}
 use Rattle.certificate.proofs.Verdicts.{forget, from-fine, from-refused, none-yet, items-next, items-stop, items-end, ascending-next, ascending-stop, ascending-low, ascending-end}
 use Rattle.certificate.proofs.FieldLaws.{Top, mask-in, mask-high, clause-first, clause-second, clause-bad, clause-in}

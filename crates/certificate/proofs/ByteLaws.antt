@@ -11,7 +11,7 @@ use lib.ListN.{length, take, drop, getD, length-drop}
 use lib.Dec.{leb}
 use lib.Seq.{drop-cons, drop-drop, take-add, length-take-le}
 use borrow.Author.Tests.{le-leb, lt-leb, leb-true}
-use Rattle.certificate.specs.Bytes.{bigEndian, number, inside}
+use Rattle.meaning.specs.Bytes.{bigEndian, number, inside}
 use Rattle.certificate.specs.Views.{numberAt}
 
 -- ---- in the file, and past its end

@@ -11,10 +11,10 @@ use borrow.Author.Tests.{le-leb, lt-leb, not-true, not-false}
 use Rattle.certificate.specs.declared.layout.Form.{Form}
 use Rattle.certificate.specs.declared.layout.Verdict.{Verdict}
 use Rattle.certificate.specs.declared.layout.Verdict.the-variants.{Refused}
-use Rattle.certificate.specs.Result.{Result, refuse, found, _>>=_, known}
-use Rattle.certificate.specs.Bytes.{number, inside}
+use Rattle.meaning.specs.Result.{Result, refuse, found, _>>=_, known}
+use Rattle.meaning.specs.Bytes.{number, inside}
 use Rattle.certificate.specs.Views.{numberAt}
-use Rattle.certificate.specs.Layout.{Kind, field, entry}
+use Rattle.meaning.specs.Layout.{Kind, field, entry}
 use Rattle.certificate.specs.Verdicts.{verdict, verdictFrom, formKnown, formFits, formBody, formAt}
 use Rattle.certificate.proofs.ByteLaws.{inside-out, number-in}
 use Rattle.certificate.proofs.Verdicts.{forget, told, told-refused, goes-on, stops, passed, failed}

@@ -8,15 +8,15 @@ use mathlib.Core.Bool.{Bool}
 use mathlib.Core.List.{List, [], _∷_}
 use lib.ListN.{length, getElem?}
 use lib.Dec.{T, leb, leb→le}
-use Rattle.certificate.specs.declared.Clause.{Clause}
+use Rattle.meaning.specs.declared.Clause.{Clause}
 use Rattle.certificate.specs.declared.views.Head.{Head}
-use Rattle.certificate.specs.Result.{Result, found, _>>=_, known}
-use Rattle.certificate.specs.Bytes.{number, inside}
-use Rattle.certificate.specs.File.{ActionSet, all, listed, either, Basic, empty, init, goal, explicit, horn, twoCnf, StateSet, basic, complement, intersection, union, progression, regression}
-use Rattle.certificate.specs.Layout.{items, ascending, field, mask, reference, clause, Kind, plain, upTo, one, two, clauses, actionKinds, stateKinds, hornRule, twoCnfRule, entry}
+use Rattle.meaning.specs.Result.{Result, found, _>>=_, known}
+use Rattle.meaning.specs.Bytes.{number, inside}
+use Rattle.meaning.specs.File.{ActionSet, all, listed, either, Basic, empty, init, goal, explicit, horn, twoCnf, StateSet, basic, complement, intersection, union, progression, regression}
+use Rattle.meaning.specs.Layout.{items, ascending, field, mask, reference, clause, Kind, plain, upTo, one, two, clauses, actionKinds, stateKinds, hornRule, twoCnfRule, entry}
 use Rattle.certificate.specs.Views.{numberAt, stateEntryAt, actionEntryAt, span, viewOfBasic, viewOf, viewOfActions}
 use Rattle.certificate.specs.Index.{headAt, stateTable, stateOf, actionTable, actionsOf, clauseAt}
-use Rattle.certificate.proofs.Results.{found-same, bind-case, need-case, known-out}
+use Rattle.meaning.proofs.Results.{found-same, bind-case, need-case, known-out}
 use Rattle.certificate.proofs.NumberLaws.{number-at}
 use Rattle.certificate.proofs.TableLaws.{state-here, actions-here}
 use Rattle.certificate.proofs.ItemLaws.{Items, Stands, items-stand, ascending-items, field-stands, mask-stands, reference-stands, clause-stands}

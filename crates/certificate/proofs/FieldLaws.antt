@@ -7,10 +7,10 @@ use mathlib.Core.List.{List}
 use lib.ListN.{length}
 use lib.Dec.{leb, ltb}
 use borrow.Author.Tests.{le-leb, lt-leb, lt-ltb, le-ltb, not-true}
-use Rattle.certificate.specs.Result.{refuse, found}
-use Rattle.certificate.specs.Bytes.{inside}
+use Rattle.meaning.specs.Result.{refuse, found}
+use Rattle.meaning.specs.Bytes.{inside}
 use Rattle.certificate.specs.Views.{numberAt}
-use Rattle.certificate.specs.Layout.{field, mask, reference, clause}
+use Rattle.meaning.specs.Layout.{field, mask, reference, clause}
 use Rattle.certificate.proofs.ByteLaws.{inside-in, number-in}
 use Rattle.certificate.proofs.Verdicts.{goes-on, stops, passed, failed}
 

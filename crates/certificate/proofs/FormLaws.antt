@@ -10,8 +10,8 @@ use lib.ListN.{getElem?}
 use Rattle.certificate.specs.declared.layout.Form.{Form}
 use Rattle.certificate.specs.declared.layout.Form.the-variants.{Bare, One, Two}
 use Rattle.certificate.specs.declared.layout.Section.{Section}
-use Rattle.certificate.specs.Result.{Result, refuse, found, _>>=_}
-use Rattle.certificate.specs.Layout.{items, ascending, mask, reference, clause, Kind, plain, one, two, clauses, actionKinds, stateKinds, hornRule, twoCnfRule}
+use Rattle.meaning.specs.Result.{Result, refuse, found, _>>=_}
+use Rattle.meaning.specs.Layout.{items, ascending, mask, reference, clause, Kind, plain, one, two, clauses, actionKinds, stateKinds, hornRule, twoCnfRule}
 use Rattle.certificate.specs.Verdicts.{ruleOf, formKnown, formFits, formBody, formAt, actionForms, stateForms, formsBy, formsOf, setsBy, setsOf}
 use Rattle.certificate.proofs.Verdicts.{forget}
 

@@ -8,13 +8,13 @@ use mathlib.Core.Bool.{Bool, _&&_}
 use mathlib.Core.List.{List, [], _∷_}
 use lib.ListN.{length, getD}
 use lib.Dec.{leb, ltb, leb→le}
-use Rattle.certificate.specs.Result.{Result, found}
-use Rattle.certificate.specs.Bytes.{inside}
-use Rattle.certificate.specs.File.{Step}
-use Rattle.certificate.specs.Layout.{items, ascending, field, count, mask, reference, action, clause, step}
+use Rattle.meaning.specs.Result.{Result, found}
+use Rattle.meaning.specs.Bytes.{inside}
+use Rattle.meaning.specs.File.{Step}
+use Rattle.meaning.specs.Layout.{items, ascending, field, count, mask, reference, action, clause, step}
 use Rattle.certificate.specs.Views.{numberAt}
 use Rattle.certificate.specs.Index.{actionIn, clauseAt}
-use Rattle.certificate.proofs.Results.{found-same, bind-case, bind-in, need-case}
+use Rattle.meaning.proofs.Results.{found-same, bind-case, bind-in, need-case}
 use Rattle.certificate.proofs.NumberLaws.{number-at}
 
 -- the items stand from place p on, `size` bytes each, all within the file

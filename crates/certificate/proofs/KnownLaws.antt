@@ -9,13 +9,15 @@ use Rattle.task.specs.Task.{actionAt}
 use Rattle.certificate.specs.declared.Places.{Places}
 use Rattle.certificate.specs.declared.ActionEntry.the-variants.{All}
 use Rattle.certificate.specs.declared.StateEntry.the-variants.{Empty}
-use Rattle.certificate.specs.File.{File, actionSetAt, stateSetAt, stepAt}
+use Rattle.meaning.specs.File.{File, actionSetAt, stateSetAt, stepAt}
 use Rattle.certificate.specs.Views.{placesOf, stateEntryAt, actionEntryAt, viewOf, viewOfBasic, viewOfActions}
 use Rattle.certificate.specs.Index.{actionIn, fieldsAt, fieldsOf, Index}
 use Rattle.certificate.specs.Known.{Known, decoded, statePlace, actionPlace}
 use Rattle.certificate.proofs.EntryLaws.{StateSetStands, ActionSetStands}
-use Rattle.certificate.proofs.Reading.{Read, file-read}
-use Rattle.certificate.proofs.Order.{Ordered, ordered}
+use Rattle.meaning.proofs.Reading.{Read, file-read}
+use Rattle.meaning.proofs.Order.{Ordered, ordered}
+use Rattle.meaning.proofs.TaskBounds.{fits-bounded}
+use Rattle.task.proofs.Moves.{Bounded}
 use Rattle.certificate.proofs.ViewLaws.{PlacesFit, places-fit, action-at, fields-at, indexed-state-set, indexed-action-set}
 
 past : {A : Type 0} (xs : List A) (i : ℕ) (d : A) → length xs ≤ i → getD xs i d ≡ d
@@ -32,6 +34,9 @@ module _ (bytes : List ℕ) (at : Places) (index : List ℕ) (k : Known bytes at
 
   pub known-ordered : Ordered (decoded bytes)
   known-ordered = ordered bytes (decoded bytes) known-read
+
+  pub known-bounded : Bounded (decoded bytes .task)
+  known-bounded = fits-bounded (decoded bytes .task) (known-read .task)
 
   pub known-fit : PlacesFit bytes at
   known-fit = subst (PlacesFit bytes) (sym (k .places)) (places-fit bytes (decoded bytes) (k .read))

@@ -15,13 +15,13 @@ use Rattle.certificate.specs.declared.layout.Verdict.{Verdict}
 use Rattle.certificate.specs.declared.layout.Rest.{Rest}
 use Rattle.certificate.specs.declared.layout.Verdict.the-variants.{Fine, Refused as Said}
 use Rattle.certificate.specs.declared.layout.Rest.the-variants.{After as Both, Refused as Ended}
-use Rattle.certificate.specs.Result.{Result, refuse, found}
-use Rattle.certificate.specs.Bytes.{number}
-use Rattle.certificate.specs.File.{File}
+use Rattle.meaning.specs.Result.{Result, refuse, found}
+use Rattle.meaning.specs.Bytes.{number}
+use Rattle.meaning.specs.File.{File}
 use Rattle.certificate.specs.Views.{numberAt, outlineTo, outlineOf}
-use Rattle.certificate.specs.Layout.{count, readTask, readFile}
+use Rattle.meaning.specs.Layout.{count, readTask, readFile}
 use Rattle.certificate.specs.Verdicts.{verdict, rest, sectionAt, stepsAt, restAt}
-use Rattle.certificate.proofs.Results.{bind-case, found-same}
+use Rattle.meaning.proofs.Results.{bind-case, found-same}
 use Rattle.certificate.proofs.ByteLaws.{number-in}
 use Rattle.certificate.proofs.Verdicts.{found-of, refused-of, goes-on, stops, passed, failed}
 use Rattle.certificate.proofs.SectionChecks.{count-is}

@@ -1,14 +1,3 @@
-pub mod Results
-pub mod Numbers
-pub mod Given
-pub mod Reading
-pub mod Order
-pub mod Suffix
-pub mod Prefix
-pub mod Back
-pub mod BackEntries
-pub mod Written
-pub mod WrittenBytes
 pub mod ByteLaws
 pub mod NumberLaws
 pub mod TableLaws

@@ -10,7 +10,7 @@ use lib.Count.{ones, ones-step}
 use lib.Dec.{leb, ltb, leb·suc-suc}
 use lib.Pow.{pow-pos, pow-lt, pow-mono}
 use borrow.Author.Tests.{le-leb, lt-ltb}
-use Rattle.certificate.specs.Layout.{onesIn, hornRule, twoCnfRule}
+use Rattle.meaning.specs.Layout.{onesIn, hornRule, twoCnfRule}
 use Rattle.certificate.specs.Verdicts.{ruleOf}
 
 -- ---- below 2 ^ n

@@ -9,7 +9,7 @@ use mathlib.Core.List.{List, [], _∷_, _++_}
 use lib.ListN.{length, getD, take, drop, length-drop}
 use lib.Seq.{drop-drop, take-add, drop-cons, length-take-le}
 use borrow.Author.Tests.{le-leb, lt-leb}
-use Rattle.certificate.specs.Bytes.{bigEndian, number, inside}
+use Rattle.meaning.specs.Bytes.{bigEndian, number, inside}
 use Rattle.certificate.specs.Views.{numberAt}
 
 module _ (k : ℕ) (bytes : List ℕ) (p : ℕ) where

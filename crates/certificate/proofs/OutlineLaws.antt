@@ -9,15 +9,15 @@ use lib.ListN.{length}
 use lib.Dec.{leb, ltb, eqb}
 use Rattle.task.specs.Task.{Task}
 use Rattle.certificate.specs.declared.Places.{Places}
-use Rattle.certificate.specs.Result.{Result, refuse, found, _>>=_, need}
-use Rattle.certificate.specs.Bytes.{number}
-use Rattle.certificate.specs.File.{File, ActionSet, StateSet, Step}
+use Rattle.meaning.specs.Result.{Result, refuse, found, _>>=_, need}
+use Rattle.meaning.specs.Bytes.{number}
+use Rattle.meaning.specs.File.{File, ActionSet, StateSet, Step}
 use Rattle.certificate.specs.Views.{numberAt, afterEntry, entryPlace, placesOf}
-use Rattle.certificate.specs.Layout.{items, field, count, mask, action, step, Kind, actionKinds, stateKinds, entry, entries, readTask}
-use Rattle.certificate.specs.Writing.{FitsAction}
+use Rattle.meaning.specs.Layout.{items, field, count, mask, action, step, Kind, actionKinds, stateKinds, entry, entries, readTask}
+use Rattle.meaning.specs.Writing.{FitsAction}
 use Rattle.certificate.specs.Verdicts.{verdict, sectionAt, stepsAt, restAt}
-use Rattle.certificate.proofs.Results.{bind-case, need-case, found-same}
-use Rattle.certificate.proofs.Given.{action-gives, items-give, action-sets-give, state-sets-give}
+use Rattle.meaning.proofs.Results.{bind-case, need-case, found-same}
+use Rattle.meaning.proofs.Given.{action-gives, items-give, action-sets-give, state-sets-give}
 use Rattle.certificate.proofs.ByteLaws.{number-in}
 use Rattle.certificate.proofs.SectionChecks.{field-is, count-is, entry-fine}
 

@@ -12,9 +12,9 @@ use lib.Dec.{leb, ltb}
 use borrow.Author.Tests.{eqb-true}
 use Rattle.certificate.specs.declared.layout.Form.{Form}
 use Rattle.certificate.specs.declared.layout.Form.the-variants.{Unknown, Bare, Numbers, States, Clauses, One, Two}
-use Rattle.certificate.specs.Result.{Result, refuse, found, _>>=_, need}
-use Rattle.certificate.specs.Bytes.{bigEndian, number}
-use Rattle.certificate.specs.Layout.{items, ascending, field, mask, reference, clause}
+use Rattle.meaning.specs.Result.{Result, refuse, found, _>>=_, need}
+use Rattle.meaning.specs.Bytes.{bigEndian, number}
+use Rattle.meaning.specs.Layout.{items, ascending, field, mask, reference, clause}
 use Rattle.certificate.specs.Verdicts.{verdict, verdictFrom, ruleOf, formFits, formBody}
 use Rattle.certificate.proofs.ByteLaws.{inside-in}
 use Rattle.certificate.proofs.Verdicts.{passed}

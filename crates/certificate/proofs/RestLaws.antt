@@ -11,7 +11,7 @@ use Rattle.certificate.specs.declared.layout.Verdict.the-variants.{Fine,
 use Rattle.certificate.specs.declared.layout.Walk.the-variants.{After, Refused as Stopped}
 use Rattle.certificate.specs.declared.layout.Rest.the-variants.{After as Both, Refused as Ended}
 use Rattle.certificate.specs.declared.layout.Section.{Section}
-use Rattle.certificate.specs.Result.{Result, refuse, found}
+use Rattle.meaning.specs.Result.{Result, refuse, found}
 use Rattle.certificate.specs.Views.{numberAt}
 use Rattle.certificate.specs.Verdicts.{verdict, walk, rest, sectionAt, stepsAt, restAt}
 use Rattle.certificate.proofs.Verdicts.{found-of, refused-of, goes-on, stops}

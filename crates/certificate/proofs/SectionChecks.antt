@@ -13,13 +13,13 @@ use Rattle.certificate.specs.declared.layout.Walk.{Walk}
 use Rattle.certificate.specs.declared.layout.Verdict.the-variants.{Fine, Refused}
 use Rattle.certificate.specs.declared.layout.Walk.the-variants.{After, Refused as Stopped}
 use Rattle.certificate.specs.declared.layout.Section.{Section}
-use Rattle.certificate.specs.Result.{Result, refuse, found, _>>=_}
-use Rattle.certificate.specs.Bytes.{number, inside}
+use Rattle.meaning.specs.Result.{Result, refuse, found, _>>=_}
+use Rattle.meaning.specs.Bytes.{number, inside}
 use Rattle.certificate.specs.Views.{numberAt}
-use Rattle.certificate.specs.File.{Step}
-use Rattle.certificate.specs.Layout.{items, field, count, step, Kind, entry, entries}
+use Rattle.meaning.specs.File.{Step}
+use Rattle.meaning.specs.Layout.{items, field, count, step, Kind, entry, entries}
 use Rattle.certificate.specs.Verdicts.{verdict, walk, setsOf, sectionAt, stepsAt}
-use Rattle.certificate.proofs.Results.{bind-case, need-case, found-same}
+use Rattle.meaning.proofs.Results.{bind-case, need-case, found-same}
 use Rattle.certificate.proofs.ByteLaws.{inside-in, inside-past, inside-out, number-in}
 use Rattle.certificate.proofs.Verdicts.{forget, told-fine, told-refused, found-of, refused-of, goes-on, stops, passed, failed, forget-after, none-yet}
 use Rattle.certificate.proofs.FieldLaws.{field-in}

@@ -8,13 +8,13 @@ use mathlib.Core.List.{List, [], _∷_}
 use lib.ListN.{length, getD}
 use lib.Dec.{eqb, leb, leb→le}
 use Rattle.task.specs.Task.{Task}
-use Rattle.certificate.specs.Result.{found}
-use Rattle.certificate.specs.Bytes.{number}
-use Rattle.certificate.specs.File.{ActionSet, StateSet, Step, File}
-use Rattle.certificate.specs.Layout.{items, field, count, mask, action, step, Kind, actionKinds, stateKinds, entry, entries, readTask, readFile}
+use Rattle.meaning.specs.Result.{found}
+use Rattle.meaning.specs.Bytes.{number}
+use Rattle.meaning.specs.File.{ActionSet, StateSet, Step, File}
+use Rattle.meaning.specs.Layout.{items, field, count, mask, action, step, Kind, actionKinds, stateKinds, entry, entries, readTask, readFile}
 use Rattle.certificate.specs.Views.{afterEntry, entryPlace, placesOf}
 use Rattle.certificate.specs.Index.{actionIn}
-use Rattle.certificate.proofs.Results.{found-same, bind-case, need-case, and-out}
+use Rattle.meaning.proofs.Results.{found-same, bind-case, need-case, and-out}
 use Rattle.certificate.proofs.NumberLaws.{number-at}
 use Rattle.certificate.proofs.ItemLaws.{Items, items-stand, count-stands, action-stands, stepRead, step-stands}
 use Rattle.certificate.proofs.EntryLaws.{StateSetStands, ActionSetStands, Ends, state-set-stands, action-set-stands}

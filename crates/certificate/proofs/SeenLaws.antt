@@ -4,15 +4,15 @@ use mathlib.Core.Path.{_≡_, refl, sym, _∙_, subst}
 use Prim.Native.Nat.{ℕ, _+_, _<_}
 use mathlib.Core.List.{List}
 use lib.ListN.{length, getD}
-use Rattle.certificate.specs.declared.Clause.{Clause}
+use Rattle.meaning.specs.declared.Clause.{Clause}
 use Rattle.certificate.specs.declared.Span.{Span}
 use Rattle.certificate.specs.declared.ActionEntry.{ActionEntry}
 use Rattle.certificate.specs.declared.ActionEntry.the-variants.{All, Listed, Either}
 use Rattle.certificate.specs.declared.StateEntry.{StateEntry}
 use Rattle.certificate.specs.declared.StateEntry.the-variants.{Empty, Init, Goal, Explicit, Horn, TwoCnf, Complement, Intersection, Union, Progression, Regression}
-use Rattle.certificate.specs.Result.{found}
-use Rattle.certificate.specs.File.{ActionSet, all, listed, either, Basic, empty, init, goal, explicit, horn, twoCnf, StateSet, basic, complement, intersection, union, progression, regression, File, actionSetAt, stateSetAt}
-use Rattle.certificate.specs.Layout.{readFile}
+use Rattle.meaning.specs.Result.{found}
+use Rattle.meaning.specs.File.{ActionSet, all, listed, either, Basic, empty, init, goal, explicit, horn, twoCnf, StateSet, basic, complement, intersection, union, progression, regression, File, actionSetAt, stateSetAt}
+use Rattle.meaning.specs.Layout.{readFile}
 use Rattle.certificate.specs.Views.{numberAt, stateEntryAt, actionEntryAt, placesOf, span, viewOfBasic, viewOf, viewOfActions}
 use Rattle.certificate.specs.Index.{clauseAt, Index}
 use Rattle.certificate.proofs.ItemLaws.{Items}

@@ -10,10 +10,10 @@ use borrow.Author.Tests.{eq-eqb, ne-eqb, not-true, not-false}
 use Rattle.task.specs.declared.Action.{Action}
 use Rattle.certificate.specs.declared.layout.Verdict.{Verdict}
 use Rattle.certificate.specs.declared.layout.Verdict.the-variants.{Fine, Refused}
-use Rattle.certificate.specs.Result.{Result, refuse, found, _>>=_}
-use Rattle.certificate.specs.Bytes.{inside}
+use Rattle.meaning.specs.Result.{Result, refuse, found, _>>=_}
+use Rattle.meaning.specs.Bytes.{inside}
 use Rattle.certificate.specs.Views.{numberAt}
-use Rattle.certificate.specs.Layout.{items, field, count, mask, action, readTask}
+use Rattle.meaning.specs.Layout.{items, field, count, mask, action, readTask}
 use Rattle.certificate.specs.Verdicts.{verdict}
 use Rattle.certificate.proofs.ByteLaws.{inside-out}
 use Rattle.certificate.proofs.Verdicts.{forget, told, told-refused, refused-of, goes-on, stops, passed, failed, forget-after}

@@ -6,8 +6,8 @@ use native.Mathlib.Omega.{arith}
 use mathlib.Core.Bool.{Bool, true, false}
 use mathlib.Core.List.{_∷_}
 use lib.Dec.{leb}
-use Rattle.certificate.specs.Result.{Result, refuse, found, _>>=_, need}
-use Rattle.certificate.specs.Layout.{items, ascending}
+use Rattle.meaning.specs.Result.{Result, refuse, found, _>>=_, need}
+use Rattle.meaning.specs.Layout.{items, ascending}
 use Rattle.certificate.specs.Verdicts.{verdict, verdictFrom}
 use Rattle.certificate.specs.declared.layout.Verdict.{Verdict}
 use Rattle.certificate.specs.declared.layout.Verdict.the-variants.{Fine, Refused}

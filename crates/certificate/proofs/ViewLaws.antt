@@ -7,12 +7,12 @@ use mathlib.Core.List.{List, []}
 use lib.ListN.{length, getD}
 use Rattle.task.specs.Task.{actionAt}
 use Rattle.certificate.specs.declared.Places.{Places}
-use Rattle.certificate.specs.Result.{found}
-use Rattle.certificate.specs.File.{all, basic, empty, File, actionSetAt, stateSetAt, stepAt}
-use Rattle.certificate.specs.Layout.{readFile}
+use Rattle.meaning.specs.Result.{found}
+use Rattle.meaning.specs.File.{all, basic, empty, File, actionSetAt, stateSetAt, stepAt}
+use Rattle.meaning.specs.Layout.{readFile}
 use Rattle.certificate.specs.Views.{entryPlace, placesOf, viewOfStep}
 use Rattle.certificate.specs.Index.{actionIn, fieldsAt, fieldsOf, stepOf, capped, Index}
-use Rattle.certificate.proofs.Reading.{file-read}
+use Rattle.meaning.proofs.Reading.{file-read}
 use Rattle.certificate.proofs.ItemLaws.{stepRead}
 use Rattle.certificate.proofs.EntryLaws.{StateSetStands, ActionSetStands}
 use Rattle.certificate.proofs.SectionLaws.{place-le, Parts, file-parts}

@@ -5,7 +5,7 @@ use mathlib.Core.Path.{_≡_}
 use mathlib.Core.List.{List, [], _∷_}
 use lib.ListN.{length, getD}
 use Rattle.task.specs.declared.Action.{Action}
-use Rattle.certificate.specs.declared.Clause.{Clause}
+use Rattle.meaning.specs.declared.Clause.{Clause}
 use Rattle.certificate.specs.declared.Places.{Places}
 use Rattle.certificate.specs.declared.ActionEntry.{ActionEntry}
 use Rattle.certificate.specs.declared.ActionEntry.the-variants.{All, Listed, Either}
@@ -14,7 +14,7 @@ use Rattle.certificate.specs.declared.StateEntry.the-variants.{Empty, In
 use Rattle.certificate.specs.declared.Step as code
 use Rattle.certificate.specs.declared.views.Head.{Head}
 use Rattle.certificate.specs.declared.views.Fields.{Fields}
-use Rattle.certificate.specs.File.{Step}
+use Rattle.meaning.specs.File.{Step}
 use Rattle.certificate.specs.Views.{numberAt, entryPlace, judgementOf}
 
 -- ---- entries

@@ -6,9 +6,9 @@ use mathlib.Core.List.{List, []}
 use lib.ListN.{getD}
 use Rattle.task.specs.Task.{Task}
 use Rattle.certificate.specs.declared.Places.{Places}
-use Rattle.certificate.specs.Result.{Result, refuse, found}
-use Rattle.certificate.specs.File.{File}
-use Rattle.certificate.specs.Layout.{readFile}
+use Rattle.meaning.specs.Result.{Result, refuse, found}
+use Rattle.meaning.specs.File.{File}
+use Rattle.meaning.specs.Layout.{readFile}
 use Rattle.certificate.specs.Views.{placesOf}
 use Rattle.certificate.specs.Index.{Index}
 

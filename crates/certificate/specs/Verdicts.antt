@@ -14,10 +14,10 @@ use Rattle.certificate.specs.declared.layout.Rest.the-variants.{After as
 use Rattle.certificate.specs.declared.layout.Form.{Form}
 use Rattle.certificate.specs.declared.layout.Form.the-variants.{Unknown, Bare, Numbers, States, Clauses, One, Two}
 use Rattle.certificate.specs.declared.layout.Section.{Section}
-use Rattle.certificate.specs.Result.{Result, refuse, found, _>>=_, need}
+use Rattle.meaning.specs.Result.{Result, refuse, found, _>>=_, need}
 use Rattle.certificate.specs.Views.{numberAt}
-use Rattle.certificate.specs.File.{ActionSet, StateSet, Step}
-use Rattle.certificate.specs.Layout.{hornRule, twoCnfRule, items, ascending, mask, reference, clause, upTo, Kind, actionKinds, stateKinds, count, step, entries}
+use Rattle.meaning.specs.File.{ActionSet, StateSet, Step}
+use Rattle.meaning.specs.Layout.{hornRule, twoCnfRule, items, ascending, mask, reference, clause, upTo, Kind, actionKinds, stateKinds, count, step, entries}
 
 abbrev pub verdict : {A : Type 0} → Result A → Verdict
 verdict (refuse r p) = Refused r p

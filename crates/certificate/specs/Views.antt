@@ -15,10 +15,10 @@ use Rattle.certificate.specs.declared.StateEntry.the-variants.{Empty, In
 use Rattle.certificate.specs.declared.Judgement.{Judgement}
 use Rattle.certificate.specs.declared.Judgement.the-variants.{Dead, Within, ActionsWithin, Unsolvable}
 use Rattle.certificate.specs.declared.Step as code
-use Rattle.certificate.specs.Result.{Result, refuse, found}
-use Rattle.certificate.specs.Bytes.{number, inside}
-use Rattle.certificate.specs.File.{ActionSet, all, listed, either, Basic, empty, init, goal, explicit, horn, twoCnf, StateSet, basic, complement, intersection, union, progression, regression, Step, File}
-use Rattle.certificate.specs.Layout.{readFile}
+use Rattle.meaning.specs.Result.{Result, refuse, found}
+use Rattle.meaning.specs.Bytes.{number, inside}
+use Rattle.meaning.specs.File.{ActionSet, all, listed, either, Basic, empty, init, goal, explicit, horn, twoCnf, StateSet, basic, complement, intersection, union, progression, regression, Step, File}
+use Rattle.meaning.specs.Layout.{readFile}
 
 -- the number in the k bytes from place p, and 0 where they run past the end
 unfoldable pub numberAt : ℕ → List ℕ → ℕ → ℕ

@@ -2,7 +2,7 @@
 ghost use mathlib.Core.Path.{_≡_};
 ghost use Prim.Native.Nat.{_+_, _*_, _≤_};
 ghost use lib.ListN.{length};
-ghost use Rattle.certificate.specs.Bytes.{number};
+ghost use Rattle.meaning.specs.Bytes.{number};
 ghost use Rattle.certificate.specs.Views.{numberAt};
 
 // Two or four bytes as a number. Eight are two of four: LLVM makes one load of that.

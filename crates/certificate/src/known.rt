@@ -10,7 +10,7 @@ use task::Action;
 ghost use mathlib.Core.Path.{_≡_};
 ghost use Prim.Native.Nat.{_<_};
 ghost use Rattle.task.specs.Task.{actionAt};
-ghost use Rattle.certificate.specs.File.{actionSetAt, stateSetAt, stepAt};
+ghost use Rattle.meaning.specs.File.{actionSetAt, stateSetAt, stepAt};
 ghost use Rattle.certificate.specs.Views.{viewOf, viewOfActions};
 ghost use Rattle.certificate.specs.Index.{fieldsOf};
 ghost use Rattle.certificate.specs.Known.{Known, decoded, statePlace, actionPlace};

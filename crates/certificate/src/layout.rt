@@ -1,17 +1,17 @@
 // How a file is read, front to back, with replies 1 to 7 at the written places and in the written order.
-use super::Outline;
-use super::Places;
-use super::bytes::byte_at;
-use super::bytes::u16_at;
-use super::bytes::u32_at;
-use super::bytes::u64_at;
+use crate::Outline;
+use crate::Places;
+use crate::bytes::byte_at;
+use crate::bytes::u16_at;
+use crate::bytes::u32_at;
+use crate::bytes::u64_at;
 ghost use mathlib.Core.Path.{_≡_};
 ghost use mathlib.Core.Bool.{true};
 ghost use Prim.Native.Nat.{ℕ, _+_, _*_, _/_, _^_, _<_, _≤_};
 ghost use lib.Dec.{leb, ltb};
 ghost use lib.ListN.{length};
-ghost use Rattle.certificate.specs.Bytes.{inside};
-ghost use Rattle.certificate.specs.Layout.{items, ascending, mask, reference, clause, upTo, entry, entries, count, readTask};
+ghost use Rattle.meaning.specs.Bytes.{inside};
+ghost use Rattle.meaning.specs.Layout.{items, ascending, mask, reference, clause, upTo, entry, entries, count, readTask};
 ghost use Rattle.certificate.specs.Views.{outlineOf};
 ghost use Rattle.certificate.specs.Verdicts.{verdict, verdictFrom, ruleOf, formKnown, formFits, formBody, actionForms, stateForms, formsOf, formAt, setsOf, walk, sectionAt, stepsAt, rest, restAt};
 

@@ -5,12 +5,6 @@ pub mod known;
 pub mod layout;
 pub mod views;
 
-// A clause: some positive fact is on, or some negative fact is off.
-pub struct Clause {
-    pub positive: u64,
-    pub negative: u64,
-}
-
 // The task's numbers, how many of each part a file has, and where the parts after the actions start.
 pub struct Places {
     pub facts: u8,

@@ -1,6 +1,6 @@
 // A file's entries, steps and actions as values, and the table of the entries' places.
 use crate::ActionEntry;
-use crate::Clause;
+use meaning::Clause;
 use crate::Judgement;
 use crate::Places;
 use crate::Span;

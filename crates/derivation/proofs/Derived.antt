@@ -11,16 +11,16 @@ use Rattle.certificate.specs.declared.Judgement.{Judgement}
 use Rattle.certificate.specs.declared.Places.{Places}
 use Rattle.certificate.specs.declared.views.Fields.{Fields}
 use Rattle.certificate.specs.declared.Step as code
-use Rattle.certificate.specs.File.{Step, stepAt}
+use Rattle.meaning.specs.File.{Step, stepAt}
 use Rattle.certificate.specs.Views.{judgementOf}
 use Rattle.certificate.specs.Index.{fieldsOf, stepOf}
 use Rattle.certificate.specs.Known.{Known, decoded}
-use Rattle.derivation.specs.Numbers.{premisesOf}
-use Rattle.derivation.specs.Derives.{ruleNumbered, derives, judgementAt, follows}
+use Rattle.rules.specs.Numbers.{premisesOf}
+use Rattle.rules.specs.Derives.{ruleNumbered, derives, judgementAt, follows}
 use Rattle.derivation.specs.Formed.{Derivable}
 use Rattle.derivation.proofs.StepLaws.{derivation-premises, rule-in-table, kind-concluded}
-use Rattle.derivation.proofs.Saying.{derives-follows}
-use Rattle.derivation.proofs.Dispatch.{read-premises}
+use Rattle.rules.proofs.Saying.{derives-follows}
+use Rattle.rules.proofs.Dispatch.{read-premises}
 use Rattle.derivation.proofs.FormedLaws.{listing, three-premises}
 
 module _ (bytes : List ℕ) (at : Places) (index : List ℕ) (known : Known bytes at index) (k : ℕ) (l : k < at .steps) (d : Derivable (decoded bytes) k)

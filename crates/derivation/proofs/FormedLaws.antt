@@ -13,18 +13,18 @@ use Rattle.task.specs.Reach.{every}
 use Rattle.certificate.specs.declared.Places.{Places}
 use Rattle.certificate.specs.declared.Judgement.the-variants.{Dead}
 use Rattle.certificate.specs.declared.views.Fields.{Fields}
-use Rattle.certificate.specs.File.{Step, File, stepAt}
+use Rattle.meaning.specs.File.{Step, File, stepAt}
 use Rattle.certificate.specs.Views as views
 use Rattle.certificate.specs.Index.{fieldsOf}
 use Rattle.certificate.specs.Known.{Known, decoded}
-use Rattle.certificate.proofs.Order.{all-at}
+use Rattle.meaning.proofs.Order.{all-at}
 use Rattle.certificate.proofs.KnownLaws.{known-read, known-steps}
 use Rattle.certificate.proofs.TableLaws.{NoneOf}
-use Rattle.derivation.specs.Step.{entriesFit, wellFormed}
-use Rattle.derivation.specs.Numbers.{premisesOf, judgementOf}
-use Rattle.derivation.specs.Derives.{judgementAt}
+use Rattle.meaning.specs.Step.{entriesFit, wellFormed}
+use Rattle.rules.specs.Numbers.{premisesOf, judgementOf}
+use Rattle.rules.specs.Derives.{judgementAt}
 use Rattle.derivation.specs.Formed.{placeFits, formedUnder, formed}
-use Rattle.derivation.proofs.RuleLaws.{and-assoc, and-true}
+use Rattle.rules.proofs.RuleLaws.{and-assoc, and-true}
 use Rattle.derivation.proofs.StepLaws.{rule-known, rule-none, rule-past}
 
 -- the three premises of a step

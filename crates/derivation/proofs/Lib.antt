@@ -1,16 +1,4 @@
-pub mod Paths
-pub mod RulesSound
-pub mod Letters
-pub mod Same
-pub mod Matching
-pub mod Holds
-pub mod Views
-pub mod RuleLaws
-pub mod DeadRules
-pub mod WithinRules
 pub mod StepLaws
-pub mod Saying
 pub mod FormedLaws
-pub mod Dispatch
 pub mod Derived
 pub mod ReplyLaws

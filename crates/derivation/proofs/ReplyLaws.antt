@@ -9,17 +9,17 @@ use lib.ListN.{length, take, drop, getElem?}
 use lib.Dec.{T, eqb, ltb, ltb→lt}
 use Rattle.task.specs.Reach.{every}
 use Rattle.task.proofs.Tests.{and-left, and-right, holds}
-use Rattle.certificate.specs.Result.{Result, refuse, found, _>>=_, need}
+use Rattle.meaning.specs.Result.{Result, refuse, found, _>>=_, need}
 use Rattle.certificate.specs.declared.views.Fields.{Fields}
-use Rattle.certificate.specs.File.{Step, File, stepAt}
+use Rattle.meaning.specs.File.{Step, File, stepAt}
 use Rattle.certificate.specs.Index.{fieldsOf}
-use Rattle.inclusion.specs.Statements.{Statement, statements}
+use Rattle.meaning.specs.Statements.{Statement, statements}
 use Rattle.inclusion.specs.declared.Verdict.{Verdict}
 use Rattle.inclusion.specs.Verdict.{verdictBy, verdictOr, verdictOf}
 use Rattle.derivation.specs.declared.reply.StepReply.{StepReply}
 use Rattle.derivation.specs.declared.reply.StepReply.the-variants.{Passed, Refused}
-use Rattle.derivation.specs.Step.{Check, statement, derivation, judgementKind, premiseCount, allRules, ruleAt, entriesFit, wellFormed, checkBy, checkStep}
-use Rattle.derivation.specs.Derives.{ruleNumbered, derives}
+use Rattle.meaning.specs.Step.{Check, statement, derivation, judgementKind, premiseCount, allRules, ruleAt, entriesFit, wellFormed, checkBy, checkStep}
+use Rattle.rules.specs.Derives.{ruleNumbered, derives}
 use Rattle.derivation.specs.Formed.{formedUnder, formed, Derivable}
 use Rattle.derivation.specs.StepReply.{stepReply, verdictReply}
 use Rattle.derivation.proofs.StepLaws.{step-unformed, step-formed, step-derived}

@@ -12,16 +12,16 @@ use lib.ListN.{length, getD, getElem?, take, drop}
 use borrow.Author.Tests.{ltb-true, ltb-false}
 use Rattle.task.specs.Reach.{every}
 use Rattle.task.proofs.Tests.{is-true}
-use Rattle.certificate.specs.Result.{Result, refuse, found, _>>=_, need, known}
-use Rattle.certificate.specs.File.{Step, File}
-use Rattle.inclusion.specs.Statements.{statements}
-use Rattle.derivation.specs.Rules.{Rule, _⊢_, rules, patternKind, dead, O}
-use Rattle.derivation.specs.Match.{Letters, _then_, noLetters, matchStep, matchPremises}
-use Rattle.derivation.specs.Step.{Check, derivation, judgementKind, premiseCount, allRules, ruleAt, entriesFit, wellFormed, checkBy, checkStep}
-use Rattle.derivation.specs.Numbers.{ruleTable, premisesOf, judgementOf}
-use Rattle.derivation.specs.Derives.{isSome, derives, ruleNumbered}
+use Rattle.meaning.specs.Result.{Result, refuse, found, _>>=_, need, known}
+use Rattle.meaning.specs.File.{Step, File}
+use Rattle.meaning.specs.Statements.{statements}
+use Rattle.meaning.specs.Rules.{Rule, _⊢_, rules, patternKind, dead, O}
+use Rattle.meaning.specs.Match.{Letters, _then_, noLetters, matchStep, matchPremises}
+use Rattle.meaning.specs.Step.{Check, derivation, judgementKind, premiseCount, allRules, ruleAt, entriesFit, wellFormed, checkBy, checkStep}
+use Rattle.rules.specs.Numbers.{ruleTable, premisesOf, judgementOf}
+use Rattle.rules.specs.Derives.{isSome, derives, ruleNumbered}
 use Rattle.derivation.specs.Formed.{formedUnder, formed}
-use Rattle.derivation.specs.declared.rule.Rule as code
+use Rattle.rules.specs.declared.rule.Rule as code
 
 -- ---- the rule with a number
 

@@ -4,8 +4,8 @@ use Prim.Native.Nat.{ℕ, _<_}
 use mathlib.Core.Bool.{Bool, true, false}
 use mathlib.Core.Option.{Option, none, some}
 use lib.Dec.{T, ltb, eqb}
-use Rattle.certificate.specs.File.{Step, File, stepAt}
-use Rattle.derivation.specs.Step.{Check, judgementKind, premiseCount, ruleAt, wellFormed}
+use Rattle.meaning.specs.File.{Step, File, stepAt}
+use Rattle.meaning.specs.Step.{Check, judgementKind, premiseCount, ruleAt, wellFormed}
 
 -- a premise's place that is used holds an earlier step than i, an unused one zero
 unfoldable pub placeFits : Bool → ℕ → ℕ → Bool

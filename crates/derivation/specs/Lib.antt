@@ -1,9 +1,2 @@
-pub mod Rules
-pub mod Truth
-pub mod Match
-pub mod Step
-pub mod Numbers
-pub mod Tests
-pub mod Derives
 pub mod Formed
 pub mod StepReply

@@ -1,7 +1,7 @@
 -- The code's reply to one step.
 -- Assumes nothing.
 use mathlib.Core.Bool.{Bool}
-use Rattle.certificate.specs.Result.{Result, refuse, found}
+use Rattle.meaning.specs.Result.{Result, refuse, found}
 use Rattle.inclusion.specs.declared.Verdict.{Verdict}
 use Rattle.inclusion.specs.declared.Verdict.the-variants.{Holds, Untrue, NotPermitted}
 use Rattle.derivation.specs.declared.reply.StepReply.{StepReply}

@@ -1,5 +1,5 @@
 // The check of one step: replies 8 to 11.
-use crate::rule::Rule;
+use rules::rule::Rule;
 use crate::step::derived;
 use crate::step::well_formed;
 use certificate::Places;
@@ -8,9 +8,9 @@ use inclusion::Verdict;
 use inclusion::decide::decide;
 ghost use mathlib.Core.Path.{_≡_};
 ghost use Prim.Native.Nat.{_<_};
-ghost use Rattle.certificate.specs.File.{stepAt};
+ghost use Rattle.meaning.specs.File.{stepAt};
 ghost use Rattle.certificate.specs.Known.{Known, decoded};
-ghost use Rattle.derivation.specs.Step.{checkStep};
+ghost use Rattle.meaning.specs.Step.{checkStep};
 ghost use Rattle.derivation.specs.StepReply.{verdictReply, stepReply};
 
 // What is replied to a step: it passed, or document 01's refusal number, 8 to 11; the place is the step's number.

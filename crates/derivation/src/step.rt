@@ -1,7 +1,7 @@
 // One step: whether it is well formed, reply 8, and whether it is derived by its rule, reply 9.
-use crate::dead;
-use crate::rule::Rule;
-use crate::within;
+use rules::dead;
+use rules::rule::Rule;
+use rules::within;
 use certificate::Judgement;
 use certificate::Places;
 use certificate::known::fields;
@@ -14,10 +14,10 @@ ghost use mathlib.Core.List.{[], _∷_};
 ghost use lib.Dec.{ltb, eqb};
 ghost use lib.ListN.{length, take, drop};
 ghost use Rattle.task.specs.Reach.{every};
-ghost use Rattle.certificate.specs.File.{File, stepAt};
+ghost use Rattle.meaning.specs.File.{File, stepAt};
 ghost use Rattle.certificate.specs.Known.{Known, decoded};
-ghost use Rattle.derivation.specs.Step.{entriesFit};
-ghost use Rattle.derivation.specs.Derives.{ruleNumbered, judgementAt, derives};
+ghost use Rattle.meaning.specs.Step.{entriesFit};
+ghost use Rattle.rules.specs.Derives.{ruleNumbered, judgementAt, derives};
 ghost use Rattle.derivation.specs.Formed.{formed, Derivable, placeFits};
 
 // What step k says, where the rule has such a premise; nothing is read where it has not.

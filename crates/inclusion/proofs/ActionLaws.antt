@@ -10,7 +10,7 @@ use mathlib.Core.List.{List, [], _∷_}
 use lib.Dec.{eqb, ltb}
 use borrow.Author.Tests.{eq-eqb, ne-eqb, lt-ltb, le-ltb}
 use Rattle.certificate.specs.Views.{numberAt}
-use Rattle.inclusion.specs.Meaning.{someBelow}
+use Rattle.meaning.specs.Sets.{someBelow}
 use Rattle.inclusion.specs.Marks.{marked, Marks, listedIn}
 use Rattle.inclusion.proofs.MarkLaws.{no-marks}
 

@@ -15,19 +15,19 @@ use Rattle.certificate.specs.declared.Places.{Places}
 use Rattle.certificate.specs.declared.Span.{Span}
 use Rattle.certificate.specs.declared.ActionEntry.{ActionEntry}
 use Rattle.certificate.specs.declared.ActionEntry.the-variants.{All, Listed, Either}
-use Rattle.certificate.specs.File.{ActionSet, all, listed, either, File, actionSetAt}
+use Rattle.meaning.specs.File.{ActionSet, all, listed, either, File, actionSetAt}
 use Rattle.certificate.specs.Views.{numberAt, viewOfActions}
-use Rattle.certificate.specs.Writing.{AllFrom, FitsActionSet}
+use Rattle.meaning.specs.Writing.{AllFrom, FitsActionSet}
 use Rattle.certificate.specs.Known.{Known, decoded, actionPlace}
 use Rattle.certificate.proofs.ItemLaws.{Items}
-use Rattle.certificate.proofs.Order.{EarlierActions, action-set-fits}
+use Rattle.meaning.proofs.Order.{EarlierActions, action-set-fits}
 use Rattle.certificate.proofs.SeenLaws.{ActionsSeen, actions-seen}
 use Rattle.certificate.proofs.KnownLaws.{known-read, known-ordered, known-fit, known-actions, known-action-set}
-use Rattle.inclusion.specs.Meaning.{allBelow, actionNode, inActions, actionsWithin}
+use Rattle.meaning.specs.Sets.{allBelow, actionNode, inActions, actionsWithin}
 use Rattle.inclusion.specs.Marks.{marked, Marks, listedIn}
-use Rattle.inclusion.proofs.Below.{all-at, all-of, some-at, some-of}
-use Rattle.inclusion.proofs.Nodes.{in-actions}
-use Rattle.inclusion.proofs.Sets.{implies-of}
+use Rattle.meaning.proofs.Below.{all-at, all-of, some-at, some-of}
+use Rattle.meaning.proofs.Nodes.{in-actions}
+use Rattle.meaning.proofs.Sets.{implies-of}
 use Rattle.inclusion.proofs.MarkLaws.{same-tests}
 
 -- ---- listed numbers, by index and by place

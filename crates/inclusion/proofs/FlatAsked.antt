@@ -14,18 +14,18 @@ use Rattle.task.specs.declared.Action.{Action}
 use Rattle.task.specs.Task.{after}
 use Rattle.task.proofs.Tests.{excluded, never, not-of}
 use Rattle.task.proofs.Bits.{after-lt}
-use Rattle.certificate.specs.declared.Clause.{Clause}
+use Rattle.meaning.specs.declared.Clause.{Clause}
 use Rattle.certificate.specs.declared.Places.{Places}
 use Rattle.certificate.specs.Known.{Known, decoded, statePlace}
-use Rattle.certificate.specs.Writing.{FitsTask}
+use Rattle.meaning.specs.Writing.{FitsTask}
 use Rattle.certificate.proofs.KnownLaws.{known-read}
-use Rattle.inclusion.specs.Meaning.{meets, inSet, someBelow}
-use Rattle.inclusion.specs.Counter.{Leaf, seen}
-use Rattle.inclusion.specs.Clauses.{overOld, leafClause, leafCount, OfLeaf}
-use Rattle.inclusion.proofs.Below.{some-at, some-of}
-use Rattle.inclusion.proofs.Moved.{asked}
-use Rattle.inclusion.proofs.ClauseLaws.{pulled-meets}
-use Rattle.inclusion.proofs.FlatLaws.{LeafIs}
+use Rattle.meaning.specs.Sets.{meets, inSet, someBelow}
+use Rattle.shapes.specs.Counter.{Leaf, seen}
+use Rattle.clauses.specs.Clauses.{overOld, leafClause, leafCount, OfLeaf}
+use Rattle.meaning.proofs.Below.{some-at, some-of}
+use Rattle.shapes.proofs.Moved.{asked}
+use Rattle.clauses.proofs.ClauseLaws.{pulled-meets}
+use Rattle.shapes.proofs.FlatLaws.{LeafIs}
 use Rattle.inclusion.proofs.FlatHolds.{by-leaf}
 use Rattle.inclusion.proofs.FlatClauses.{MeetsEach, met-basic}
 

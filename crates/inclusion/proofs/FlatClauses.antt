@@ -13,19 +13,20 @@ use Rattle.task.specs.Task.{Task, isInit, isGoal}
 use Rattle.task.specs.Reach.{every}
 use Rattle.task.proofs.Tests.{same}
 use Rattle.task.proofs.Bits.{bit, bit-le, bit-none, bit-high, same-bits, all-on-at, all-on-of}
-use Rattle.certificate.specs.declared.Clause.{Clause}
-use Rattle.certificate.specs.File.{Basic, empty, init, goal, explicit, horn, twoCnf, basicKind}
+use Rattle.meaning.specs.declared.Clause.{Clause}
+use Rattle.meaning.specs.File.{Basic, empty, init, goal, explicit, horn, twoCnf, basicKind}
 use Rattle.certificate.specs.Views.{span, viewOfBasic}
 use Rattle.certificate.specs.Index as places
 use Rattle.certificate.proofs.ItemLaws.{Items}
 use Rattle.certificate.proofs.EntryLaws.{BasicItems}
-use Rattle.inclusion.specs.Meaning.{meets, inBasic}
-use Rattle.inclusion.specs.Clauses.{has, sameAs, onIn, clauseAt, clauseCount}
-use Rattle.inclusion.specs.Propagation.{value}
-use Rattle.inclusion.specs.Flat.{numbersOf}
-use Rattle.inclusion.proofs.OneFact.{bit-same, bit-only}
-use Rattle.inclusion.proofs.ClauseLaws.{Has, by-met, met-by, always}
-use Rattle.inclusion.proofs.Lists.{every-index}
+use Rattle.meaning.specs.Sets.{meets, inBasic}
+use Rattle.task.specs.Inner.{has}
+use Rattle.clauses.specs.Clauses.{sameAs, onIn, clauseAt, clauseCount}
+use Rattle.clauses.specs.Propagation.{value}
+use Rattle.shapes.specs.Flat.{numbersOf}
+use Rattle.clauses.proofs.OneFact.{bit-same, bit-only}
+use Rattle.clauses.proofs.ClauseLaws.{Has, by-met, met-by, always}
+use Rattle.shapes.proofs.Lists.{every-index}
 use Rattle.inclusion.proofs.FlatHolds.{placeOf, countOf, clause-stands}
 
 -- ---- clauses of one fact

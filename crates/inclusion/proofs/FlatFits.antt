@@ -10,22 +10,23 @@ use lib.ListN.{length, getD, length-append, length-take}
 use lib.Dec.{T, eqb}
 use Rattle.task.specs.declared.Action.{Action}
 use Rattle.task.specs.Task.{actionAt}
-use Rattle.certificate.specs.declared.Clause.{Clause}
+use Rattle.meaning.specs.declared.Clause.{Clause}
 use Rattle.certificate.specs.declared.Places.{Places}
-use Rattle.certificate.specs.File.{File, basicKind, Basic, empty, init, goal, explicit, horn, twoCnf}
+use Rattle.meaning.specs.File.{File, basicKind, Basic, empty, init, goal, explicit, horn, twoCnf}
 use Rattle.certificate.specs.Index as places
-use Rattle.certificate.specs.Layout.{hornRule, twoCnfRule}
+use Rattle.meaning.specs.Layout.{hornRule, twoCnfRule}
 use Rattle.certificate.specs.Views.{numberAt, viewOfBasic, span}
 use Rattle.certificate.specs.Known.{Known, decoded, statePlace}
-use Rattle.certificate.specs.Writing.{Ascending, FitsAction, FitsClauses, FitsBasic}
-use Rattle.certificate.proofs.Order as order
+use Rattle.meaning.specs.Writing.{Ascending, FitsAction, FitsClauses, FitsBasic}
+use Rattle.meaning.proofs.Order as order
 use Rattle.certificate.proofs.ItemLaws.{Items}
 use Rattle.certificate.proofs.EntryLaws.{BasicItems}
 use Rattle.certificate.proofs.KnownLaws.{known-init, known-goal}
-use Rattle.inclusion.specs.Counter.{Leaf, ActionsOf, noAction}
+use Rattle.task.specs.Inner.{noAction}
+use Rattle.shapes.specs.Counter.{Leaf, ActionsOf}
 use Rattle.inclusion.specs.Listed.{statesAt, AscendingAt}
-use Rattle.inclusion.specs.Flat.{numbersOf, flatLeaf, flatOf}
-use Rattle.inclusion.proofs.FlatLaws.{four, Holding, LeafIs, leaf-is}
+use Rattle.shapes.specs.Flat.{numbersOf, flatLeaf, flatOf}
+use Rattle.shapes.proofs.FlatLaws.{four, Holding, LeafIs, leaf-is}
 use Rattle.inclusion.proofs.FlatHolds.{placeOf, countOf, states-stand, by-leaf}
 use Rattle.inclusion.proofs.FlatAsked.{known-task}
 use Rattle.inclusion.proofs.FlatListed.{noLeaf}

@@ -15,16 +15,16 @@ use Rattle.task.specs.declared.Action.{Action}
 use Rattle.task.specs.Reach.{member}
 use Rattle.task.proofs.Tests.{or-left, or-right, never, not-of, is-true, same, member-first, member-rest}
 use Rattle.certificate.specs.declared.Places.{Places}
-use Rattle.certificate.specs.Layout.{hornRule, twoCnfRule}
+use Rattle.meaning.specs.Layout.{hornRule, twoCnfRule}
 use Rattle.certificate.specs.Known.{Known, decoded}
-use Rattle.certificate.specs.File.{File}
-use Rattle.inclusion.specs.declared.shape.Gathered.{Gathered}
-use Rattle.inclusion.specs.Shapes.{kindAt}
-use Rattle.inclusion.specs.Counter.{Leaf, Refuted}
-use Rattle.inclusion.specs.Clauses.{OfLeaf, OfLeaves, Refutes}
+use Rattle.meaning.specs.File.{File}
+use Rattle.shapes.specs.declared.shape.Gathered.{Gathered}
+use Rattle.meaning.specs.Shapes.{kindAt}
+use Rattle.shapes.specs.Counter.{Leaf, Refuted}
+use Rattle.clauses.specs.Clauses.{OfLeaf, OfLeaves, Refutes}
 use Rattle.inclusion.specs.Listed.{Shows}
-use Rattle.inclusion.specs.Gathered.{leftOf, rightOf, kindsOf, Gathers}
-use Rattle.inclusion.proofs.FlatLaws.{Holding, leaf-is}
+use Rattle.shapes.specs.Gathered.{leftOf, rightOf, kindsOf, Gathers}
+use Rattle.shapes.proofs.FlatLaws.{Holding, leaf-is}
 use Rattle.inclusion.proofs.FlatListed.{noLeaf, shows-refuted}
 use Rattle.inclusion.proofs.FlatRefutes.{Unlisted, refutes-refuted}
 use Rattle.inclusion.proofs.FlatFits.{ClausesFit, ruleFor, leaf-fits}

@@ -12,28 +12,28 @@ use lib.Dec.{T}
 use Rattle.task.specs.declared.Action.{Action}
 use Rattle.task.specs.Task.{Task, isInit, isGoal}
 use Rattle.task.specs.Reach.{member, every}
-use Rattle.certificate.specs.declared.Clause.{Clause}
+use Rattle.meaning.specs.declared.Clause.{Clause}
 use Rattle.certificate.specs.declared.Places.{Places}
-use Rattle.certificate.specs.File.{File, stateSetAt, stateKind, basicKind, Basic, empty, init, goal, explicit, horn, twoCnf, basic}
+use Rattle.meaning.specs.File.{File, stateSetAt, stateKind, basicKind, Basic, empty, init, goal, explicit, horn, twoCnf, basic}
 use Rattle.certificate.specs.Views.{numberAt, span, viewOf, viewOfBasic}
 use Rattle.certificate.specs.Index as places
 use Rattle.certificate.specs.Known.{Known, decoded, statePlace}
-use Rattle.certificate.specs.Writing.{FitsBasic, FitsStateSet}
-use Rattle.certificate.proofs.Order.{state-set-fits}
+use Rattle.meaning.specs.Writing.{FitsBasic, FitsStateSet}
+use Rattle.meaning.proofs.Order.{state-set-fits}
 use Rattle.certificate.proofs.ItemLaws.{Items}
 use Rattle.certificate.proofs.EntryLaws.{BasicItems, StateItems}
 use Rattle.certificate.proofs.KnownLaws.{known-state-sets, known-state-set, known-init, known-goal, known-ordered, known-read}
-use Rattle.inclusion.specs.Meaning.{allBelow, meets, inBasic, inSet}
-use Rattle.inclusion.specs.Shapes.{kindAt}
-use Rattle.inclusion.specs.Counter.{Leaf, seen}
-use Rattle.inclusion.specs.Clauses.{clauseAt}
+use Rattle.meaning.specs.Sets.{allBelow, meets, inBasic, inSet}
+use Rattle.meaning.specs.Shapes.{kindAt}
+use Rattle.shapes.specs.Counter.{Leaf, seen}
+use Rattle.clauses.specs.Clauses.{clauseAt}
 use Rattle.inclusion.specs.Listed.{statesAt, leafHolds, leafHoldsAt}
-use Rattle.inclusion.specs.Flat.{numbersOf}
-use Rattle.inclusion.proofs.Below.{all-at, all-of}
-use Rattle.inclusion.proofs.Lists.{every-index}
-use Rattle.inclusion.proofs.Leaves.{in-basic, basic-of}
-use Rattle.inclusion.proofs.Moved.{asked}
-use Rattle.inclusion.proofs.FlatLaws.{numberOf, LeafIs}
+use Rattle.shapes.specs.Flat.{numbersOf}
+use Rattle.meaning.proofs.Below.{all-at, all-of}
+use Rattle.shapes.proofs.Lists.{every-index}
+use Rattle.shapes.proofs.Leaves.{in-basic, basic-of}
+use Rattle.shapes.proofs.Moved.{asked}
+use Rattle.shapes.proofs.FlatLaws.{numberOf, LeafIs}
 
 agree : (p q : Bool) → T p ↔ T q → p ≡ q
 agree true true h = refl

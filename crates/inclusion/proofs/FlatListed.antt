@@ -13,18 +13,18 @@ use Rattle.task.specs.Task.{Task, isInit, applies}
 use Rattle.task.specs.Reach.{member}
 use Rattle.task.proofs.Tests.{member-first, member-none, member-cases}
 use Rattle.certificate.specs.declared.Places.{Places}
-use Rattle.certificate.specs.File.{File, basicKind, Basic, empty, init, goal, explicit, horn, twoCnf}
+use Rattle.meaning.specs.File.{File, basicKind, Basic, empty, init, goal, explicit, horn, twoCnf}
 use Rattle.certificate.specs.Views.{viewOfBasic, span}
 use Rattle.certificate.specs.Known.{Known, decoded, statePlace}
-use Rattle.certificate.specs.Writing.{AllFrom, FitsBasic}
+use Rattle.meaning.specs.Writing.{AllFrom, FitsBasic}
 use Rattle.certificate.proofs.EntryLaws.{BasicItems}
-use Rattle.inclusion.specs.Meaning.{inBasic, inSet}
-use Rattle.inclusion.specs.Counter.{Leaf, seen, AllIn, NoneIn, Counter, Refuted}
+use Rattle.meaning.specs.Sets.{inBasic, inSet}
+use Rattle.shapes.specs.Counter.{Leaf, seen, AllIn, NoneIn, Counter, Refuted}
 use Rattle.inclusion.specs.Listed.{leafStates, leafStatesAt, leafHoldsAt, Shows}
-use Rattle.inclusion.specs.Flat.{numbersOf}
-use Rattle.inclusion.proofs.Lists.{tests-agree}
-use Rattle.inclusion.proofs.Moved.{asked, all-index, none-index}
-use Rattle.inclusion.proofs.FlatLaws.{Holding, LeafIs, leaf-is, each-leaf}
+use Rattle.shapes.specs.Flat.{numbersOf}
+use Rattle.shapes.proofs.Lists.{tests-agree}
+use Rattle.shapes.proofs.Moved.{asked, all-index, none-index}
+use Rattle.shapes.proofs.FlatLaws.{Holding, LeafIs, leaf-is, each-leaf}
 use Rattle.inclusion.proofs.FlatHolds.{placeOf, countOf, states-stand, by-leaf, leaf-holds}
 use Rattle.inclusion.proofs.FlatAsked.{known-task}
 

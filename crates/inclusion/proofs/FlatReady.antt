@@ -6,18 +6,18 @@ use Prim.Native.Nat.{ℕ, _^_, _<_}
 use mathlib.Core.Bool.{Bool, true, false}
 use lib.Dec.{T}
 use Rattle.task.specs.declared.Action.{Action}
-use Rattle.certificate.specs.declared.Clause.{Clause}
+use Rattle.meaning.specs.declared.Clause.{Clause}
 use Rattle.certificate.proofs.KnownLaws.{known-facts}
 use mathlib.Core.List.{List}
 use Rattle.certificate.specs.declared.Places.{Places}
 use Rattle.certificate.specs.Known.{Known, decoded}
-use Rattle.inclusion.specs.declared.shape.Gathered.{Gathered}
-use Rattle.inclusion.specs.Counter.{Leaf, Refuted}
-use Rattle.inclusion.specs.Gathered.{leftOf, rightOf, Gathers}
+use Rattle.shapes.specs.declared.shape.Gathered.{Gathered}
+use Rattle.shapes.specs.Counter.{Leaf, Refuted}
+use Rattle.shapes.specs.Gathered.{leftOf, rightOf, Gathers}
 use Rattle.inclusion.specs.Search.{Readable, Ready}
-use Rattle.inclusion.specs.Propagation.{wordsAt, ruleOf, Usable, Tells}
-use Rattle.inclusion.specs.Clauses.{OfLeaf, OfLeaves, Refutes}
-use Rattle.inclusion.proofs.FlatLaws.{Holding}
+use Rattle.clauses.specs.Propagation.{wordsAt, ruleOf, Usable, Tells}
+use Rattle.clauses.specs.Clauses.{OfLeaf, OfLeaves, Refutes}
+use Rattle.shapes.proofs.FlatLaws.{Holding}
 use Rattle.inclusion.proofs.FlatFits.{holding-room, leaf-ascends}
 use Rattle.inclusion.proofs.FlatGathered.{ruleBy, holding-left, holding-right, left-rule, clauses-refuted}
 

@@ -13,14 +13,14 @@ use lib.Dec.{T, eqb}
 use Rattle.task.specs.declared.Action.{Action}
 use Rattle.task.specs.Task.{applies}
 use Rattle.task.proofs.Tests.{not-of}
-use Rattle.certificate.specs.declared.Clause.{Clause}
+use Rattle.meaning.specs.declared.Clause.{Clause}
 use Rattle.certificate.specs.declared.Places.{Places}
 use Rattle.certificate.specs.Known.{Known, decoded}
-use Rattle.inclusion.specs.Meaning.{meets}
-use Rattle.inclusion.specs.Counter.{Leaf, AllIn, NoneIn, Counter, Refuted}
-use Rattle.inclusion.specs.Clauses.{clauseAt, clauseCount, overOld, leafClause, leafCount, OfLeaf, OfLeaves, Refutes}
-use Rattle.inclusion.proofs.Moved.{asked, all-index, none-index}
-use Rattle.inclusion.proofs.FlatLaws.{Holding, each-leaf}
+use Rattle.meaning.specs.Sets.{meets}
+use Rattle.shapes.specs.Counter.{Leaf, AllIn, NoneIn, Counter, Refuted}
+use Rattle.clauses.specs.Clauses.{clauseAt, clauseCount, overOld, leafClause, leafCount, OfLeaf, OfLeaves, Refutes}
+use Rattle.shapes.proofs.Moved.{asked, all-index, none-index}
+use Rattle.shapes.proofs.FlatLaws.{Holding, each-leaf}
 use Rattle.inclusion.proofs.FlatClauses.{none, none-met}
 use Rattle.inclusion.proofs.FlatAsked.{within-64, seen-low, asked-meets, asked-fails}
 use Rattle.inclusion.proofs.FlatListed.{noLeaf}

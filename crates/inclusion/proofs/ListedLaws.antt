@@ -12,11 +12,11 @@ use lib.Dec.{T, eqb}
 use borrow.Author.Tests.{eq-eqb, ne-eqb}
 use Rattle.task.proofs.Tests.{is-true}
 use Rattle.certificate.specs.Views.{numberAt}
-use Rattle.inclusion.specs.Meaning.{allBelow, someBelow, meets}
-use Rattle.inclusion.specs.Clauses.{clauseAt}
+use Rattle.meaning.specs.Sets.{allBelow, someBelow, meets}
+use Rattle.clauses.specs.Clauses.{clauseAt}
 use Rattle.inclusion.specs.Listed.{leafHolds, AscendingAt}
 use Rattle.inclusion.specs.Search.{Readable}
-use Rattle.inclusion.proofs.Below.{all-at, some-of}
+use Rattle.meaning.proofs.Below.{all-at, some-of}
 use Rattle.inclusion.proofs.SearchLaws.{is-false}
 
 -- ---- each number below k passes; some number does

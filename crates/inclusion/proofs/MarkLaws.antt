@@ -15,11 +15,11 @@ use lib.Dec.{T, eqb, eqb-refl, eqb→eq}
 use borrow.Author.Tests.{eq-eqb, ne-eqb}
 use Rattle.task.proofs.Tests.{and-left, and-right, and-both, or-left, implied}
 use Rattle.task.proofs.Bits.{bit, same-bits, bit-le, bit-or, bit-zero, bit-suc, bit-none, bit-high}
-use Rattle.inclusion.specs.Meaning.{allBelow}
-use Rattle.inclusion.specs.Clauses.{has}
+use Rattle.meaning.specs.Sets.{allBelow}
+use Rattle.task.specs.Inner.{has}
 use Rattle.inclusion.specs.Marks.{marked, Marks}
-use Rattle.inclusion.proofs.Below.{all-at, all-of}
-use Rattle.inclusion.proofs.Sets.{implies-of}
+use Rattle.meaning.proofs.Below.{all-at, all-of}
+use Rattle.meaning.proofs.Sets.{implies-of}
 
 -- ---- one word
 

@@ -15,15 +15,16 @@ use Rattle.task.specs.Task.{actionAt, applies, after}
 use Rattle.task.specs.Reach.{every}
 use Rattle.task.proofs.Tests.{excluded, never, same}
 use Rattle.task.proofs.Moves.{Bounded}
-use Rattle.certificate.specs.File.{File, stateSetAt, second}
-use Rattle.certificate.proofs.Order.{Ordered}
-use Rattle.inclusion.specs.Meaning.{inActions, inSet, statesWithin}
-use Rattle.inclusion.specs.Shapes.{keep, Sides, kindAt, child, leaves}
-use Rattle.inclusion.specs.Counter.{noAction, ActionsOf, seen, Counter, leftLeaves, rightLeaves}
-use Rattle.inclusion.proofs.Sets.{and-iff, within, at-progression, at-regression}
-use Rattle.inclusion.proofs.Lists.{any, every-one, any-one, not-any, every-split, kept-passes, tests-agree}
-use Rattle.inclusion.proofs.Leaves.{in-intersections, in-unions}
-use Rattle.inclusion.proofs.Moved.{as-written}
+use Rattle.meaning.specs.File.{File, stateSetAt, second}
+use Rattle.meaning.proofs.Order.{Ordered}
+use Rattle.meaning.specs.Sets.{inActions, inSet, statesWithin}
+use Rattle.meaning.specs.Shapes.{keep, Sides, kindAt, child, leaves}
+use Rattle.task.specs.Inner.{noAction}
+use Rattle.shapes.specs.Counter.{ActionsOf, seen, Counter, leftLeaves, rightLeaves}
+use Rattle.meaning.proofs.Sets.{and-iff, within, at-progression, at-regression}
+use Rattle.shapes.proofs.Lists.{any, every-one, any-one, not-any, every-split, kept-passes, tests-agree}
+use Rattle.shapes.proofs.Leaves.{in-intersections, in-unions}
+use Rattle.shapes.proofs.Moved.{as-written}
 
 -- ---- the action that does nothing
 

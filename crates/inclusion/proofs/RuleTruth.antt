@@ -10,16 +10,17 @@ use lib.ListN.{getD}
 use lib.Dec.{T, eqb}
 use Rattle.task.specs.declared.Action.{Action}
 use Rattle.task.proofs.Moves.{Bounded}
-use Rattle.certificate.specs.File.{File, stateSetAt, second}
-use Rattle.certificate.proofs.Order.{Ordered}
-use Rattle.inclusion.specs.Meaning.{statesWithin}
-use Rattle.inclusion.specs.Shapes.{keep, Sides, kindAt, leaves, permitted, shape₁, shapeWith, shape₂, shape₃, shape₄}
-use Rattle.inclusion.specs.Counter.{Leaf, Counter, ActionsOf, noAction, leftLeaves, rightLeaves}
-use Rattle.inclusion.specs.Flat.{notEmpty}
-use Rattle.inclusion.specs.Gathered.{bracketLeaf, bracketSides, shapeOf, sidesOf, throughOf, actionsOfRule, leftOf, rightOf, Acts}
+use Rattle.meaning.specs.File.{File, stateSetAt, second}
+use Rattle.meaning.proofs.Order.{Ordered}
+use Rattle.meaning.specs.Sets.{statesWithin}
+use Rattle.meaning.specs.Shapes.{keep, Sides, kindAt, leaves, permitted, shape₁, shapeWith, shape₂, shape₃, shape₄}
+use Rattle.task.specs.Inner.{noAction}
+use Rattle.shapes.specs.Counter.{Leaf, Counter, ActionsOf, leftLeaves, rightLeaves}
+use Rattle.shapes.specs.Flat.{notEmpty}
+use Rattle.shapes.specs.Gathered.{bracketLeaf, bracketSides, shapeOf, sidesOf, throughOf, actionsOfRule, leftOf, rightOf, Acts}
 use Rattle.inclusion.proofs.Reduced.{truth-1, truth-2, truth-3, truth-4, sidesWith}
-use Rattle.inclusion.proofs.Filled.{drop-empty}
-use Rattle.inclusion.proofs.LeafKinds.{the-only}
+use Rattle.shapes.proofs.Filled.{drop-empty}
+use Rattle.shapes.proofs.LeafKinds.{the-only}
 
 abbrev NoCounterOf : File → ℕ → ℕ → ℕ → Type 0
 NoCounterOf f rule a b = Counter f (Acts f rule a) (leftOf f rule a b) (rightOf f rule a b) → ⊥

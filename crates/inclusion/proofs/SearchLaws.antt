@@ -12,7 +12,7 @@ use lib.Dec.{T}
 use Rattle.task.specs.Reach.{member}
 use Rattle.task.proofs.Tests.{is-true, member-none, member-first, member-rest, member-cases}
 use Rattle.certificate.specs.Views.{numberAt}
-use Rattle.certificate.specs.Writing.{Ascending}
+use Rattle.meaning.specs.Writing.{Ascending}
 use Rattle.inclusion.specs.Listed.{statesAt}
 
 -- a test that cannot pass

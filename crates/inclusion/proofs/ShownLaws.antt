@@ -12,11 +12,11 @@ use Rattle.task.specs.declared.Action.{Action}
 use Rattle.task.specs.Task.{applies, after}
 use Rattle.task.specs.Reach.{member}
 use Rattle.task.proofs.Tests.{and-left, and-right, and-both, or-cases, or-right, same, member-none, member-first, member-cases}
-use Rattle.inclusion.specs.Meaning.{allBelow, someBelow}
-use Rattle.inclusion.specs.Counter.{seen}
+use Rattle.meaning.specs.Sets.{allBelow, someBelow}
+use Rattle.shapes.specs.Counter.{seen}
 use Rattle.inclusion.specs.Listed.{leafHolds, leafStates, leafHoldsAt, leafStatesAt, Shows}
 use Rattle.inclusion.specs.Search.{spared, holdsAt, showsIn}
-use Rattle.inclusion.proofs.Below.{all-at, all-of, some-at, some-of}
+use Rattle.meaning.proofs.Below.{all-at, all-of, some-at, some-of}
 use Rattle.inclusion.proofs.SearchLaws.{word, listed-at, listed-in}
 
 -- ---- three tests, one after the other

@@ -13,20 +13,21 @@ use Rattle.task.specs.Reach.{every}
 use Rattle.task.proofs.Tests.{and-left}
 use Rattle.task.proofs.Moves.{Bounded}
 use Rattle.certificate.specs.declared.Places.{Places}
-use Rattle.certificate.specs.File.{File, Basic, empty, init, goal, explicit, horn, twoCnf, StateSet, basic, complement, intersection, union, progression, regression, stateSetAt, stateKind, basicKind, second}
+use Rattle.meaning.specs.File.{File, Basic, empty, init, goal, explicit, horn, twoCnf, StateSet, basic, complement, intersection, union, progression, regression, stateSetAt, stateKind, basicKind, second}
 use Rattle.certificate.specs.Known.{Known, decoded}
-use Rattle.certificate.specs.Writing.{FitsStateSet}
-use Rattle.certificate.proofs.Order.{Ordered, state-set-fits}
+use Rattle.meaning.specs.Writing.{FitsStateSet}
+use Rattle.meaning.proofs.Order.{Ordered, state-set-fits}
 use Rattle.certificate.proofs.KnownLaws.{known-read, known-action-sets}
 use Rattle.inclusion.specs.declared.Verdict.{Verdict}
 use Rattle.inclusion.specs.declared.Verdict.the-variants.{Holds, Untrue, NotPermitted}
-use Rattle.inclusion.specs.Meaning.{statesWithin, actionsWithin}
-use Rattle.inclusion.specs.Shapes.{kindAt, leaves, shape₁, shapeWith, shape₂, shape₃, shape₄}
-use Rattle.inclusion.specs.Counter.{Leaf, Counter, ActionsOf, noAction, Refuted, SomeRefuted}
-use Rattle.inclusion.specs.Gathered.{shapeOf, bracketLeaf, actionsOfRule, leftOf, rightOf, Acts}
-use Rattle.inclusion.specs.Statements.{statements}
+use Rattle.meaning.specs.Sets.{statesWithin, actionsWithin}
+use Rattle.meaning.specs.Shapes.{kindAt, leaves, shape₁, shapeWith, shape₂, shape₃, shape₄}
+use Rattle.task.specs.Inner.{noAction}
+use Rattle.shapes.specs.Counter.{Leaf, Counter, ActionsOf, Refuted, SomeRefuted}
+use Rattle.shapes.specs.Gathered.{shapeOf, bracketLeaf, actionsOfRule, leftOf, rightOf, Acts}
+use Rattle.meaning.specs.Statements.{statements}
 use Rattle.inclusion.specs.Verdict.{verdictBut, verdictBy, verdictOr, verdictOf}
-use Rattle.inclusion.proofs.Lists.{kept-passes}
+use Rattle.shapes.proofs.Lists.{kept-passes}
 use Rattle.inclusion.proofs.RuleTruth.{rule-truth, the-bracket}
 
 -- ---- a counterexample by its action

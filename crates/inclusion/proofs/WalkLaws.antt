@@ -9,8 +9,8 @@ use mathlib.Core.Bool.{not, _||_}
 use mathlib.Core.List.{List}
 use lib.Dec.{T, eqb, eqb-refl, eqb→eq}
 use Rattle.task.proofs.Tests.{or-cases, or-left, or-right, never}
-use Rattle.certificate.specs.File.{File}
-use Rattle.inclusion.specs.Meaning.{inActions}
+use Rattle.meaning.specs.File.{File}
+use Rattle.meaning.specs.Sets.{inActions}
 use Rattle.inclusion.specs.Marks.{marked, Marks, Looking}
 use Rattle.inclusion.proofs.MarkLaws.{zeros, no-marks, same-tests}
 

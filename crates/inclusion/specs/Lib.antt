@@ -1,15 +1,4 @@
-pub mod Meaning
-pub mod Shapes
-pub mod Statements
-pub mod Counter
-pub mod Clauses
-pub mod Propagation
 pub mod Listed
 pub mod Search
-pub mod Flat
 pub mod Marks
 pub mod Verdict
-pub mod Gathered
-pub mod Trees
-pub mod Arrays
-pub mod Decided

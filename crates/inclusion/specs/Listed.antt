@@ -11,10 +11,10 @@ use Rattle.task.specs.Facts.{allOn}
 use Rattle.task.specs.Task.{applies}
 use Rattle.task.specs.Reach.{member}
 use Rattle.certificate.specs.Views.{numberAt}
-use Rattle.certificate.specs.Writing.{Ascending}
-use Rattle.inclusion.specs.Meaning.{allBelow, meets}
-use Rattle.inclusion.specs.Counter.{seen}
-use Rattle.inclusion.specs.Clauses.{clauseAt}
+use Rattle.meaning.specs.Writing.{Ascending}
+use Rattle.meaning.specs.Sets.{allBelow, meets}
+use Rattle.shapes.specs.Counter.{seen}
+use Rattle.clauses.specs.Clauses.{clauseAt}
 
 -- `count` states of 8 bytes from place `at`
 unfoldable pub statesAt : List ℕ → ℕ → ℕ → List ℕ

@@ -7,10 +7,10 @@ use mathlib.Core.Logic.{_⊎_}
 use mathlib.Core.List.{List}
 use lib.ListN.{getD}
 use lib.Dec.{T, eqb}
-use Rattle.certificate.specs.File.{File}
+use Rattle.meaning.specs.File.{File}
 use Rattle.certificate.specs.Views.{numberAt}
-use Rattle.inclusion.specs.Meaning.{someBelow, inActions}
-use Rattle.inclusion.specs.Clauses.{has}
+use Rattle.meaning.specs.Sets.{someBelow, inActions}
+use Rattle.task.specs.Inner.{has}
 
 -- number i is marked
 unfoldable pub marked : List ℕ → ℕ → Bool

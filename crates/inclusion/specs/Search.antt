@@ -8,7 +8,7 @@ use lib.ListN.{length, getD}
 use lib.Dec.{eqb}
 use Rattle.task.specs.declared.Action.{Action}
 use Rattle.task.specs.Task.{applies, after}
-use Rattle.inclusion.specs.Meaning.{allBelow}
+use Rattle.meaning.specs.Sets.{allBelow}
 use Rattle.inclusion.specs.Listed.{leafHolds, AscendingAt}
 
 -- the left leaf that need not be asked: the anchor, whose states are tried, unless it is asked about the state after the action

@@ -4,8 +4,8 @@ use Prim.Native.Nat.{ℕ, _-_}
 use mathlib.Core.Bool.{Bool, true, false}
 use mathlib.Core.Option.{Option, none, some}
 use lib.ListN.{getElem?}
-use Rattle.certificate.specs.File.{File}
-use Rattle.inclusion.specs.Statements.{Statement, statements}
+use Rattle.meaning.specs.File.{File}
+use Rattle.meaning.specs.Statements.{Statement, statements}
 use Rattle.inclusion.specs.declared.Verdict.{Verdict}
 use Rattle.inclusion.specs.declared.Verdict.the-variants.{Holds, Untrue, NotPermitted}
 

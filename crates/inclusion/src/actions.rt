@@ -13,7 +13,7 @@ ghost use mathlib.Core.Bool.{_||_};
 ghost use Prim.Native.Nat.{_+_, _≤_, _<_};
 ghost use lib.Dec.{ltb};
 ghost use Rattle.certificate.specs.Known.{Known, decoded};
-ghost use Rattle.inclusion.specs.Meaning.{inActions, actionsWithin};
+ghost use Rattle.meaning.specs.Sets.{inActions, actionsWithin};
 ghost use Rattle.inclusion.specs.Marks.{marked, Marks, listedIn, Looking};
 
 // The first n numbers marked.

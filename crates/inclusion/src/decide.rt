@@ -2,11 +2,11 @@
 use crate::Verdict;
 use crate::actions::action_marks;
 use crate::actions::actions_within;
-use crate::clauses::refuted;
+use clauses::refuted;
 use crate::listed::shown;
 use crate::marks::is_marked;
-use crate::shape::Gathered;
-use crate::shape::gather;
+use shapes::shape::Gathered;
+use shapes::shape::gather;
 use certificate::Places;
 use certificate::known::action;
 use task::Action;
@@ -16,8 +16,8 @@ ghost use Prim.Native.Nat.{_≤_, _<_, _^_};
 ghost use lib.Dec.{T};
 ghost use Rattle.task.specs.declared.Action.{Action};
 ghost use Rattle.certificate.specs.Known.{Known, decoded};
-ghost use Rattle.inclusion.specs.Counter.{Refuted, SomeRefuted, Counter};
-ghost use Rattle.inclusion.specs.Gathered.{Gathers, leftOf, rightOf, Acts};
+ghost use Rattle.shapes.specs.Counter.{Refuted, SomeRefuted, Counter};
+ghost use Rattle.shapes.specs.Gathered.{Gathers, leftOf, rightOf, Acts};
 ghost use Rattle.inclusion.specs.Verdict.{verdictOf, verdictBut};
 
 // Whether an action shows the gathered statement of a rule at entries e and d to be untrue.

@@ -12,9 +12,9 @@ ghost use lib.ListN.{length};
 ghost use lib.Dec.{T, eqb};
 ghost use Rattle.task.specs.Reach.{member};
 ghost use Rattle.certificate.specs.Views.{numberAt};
-ghost use Rattle.certificate.specs.Writing.{Ascending};
-ghost use Rattle.inclusion.specs.Meaning.{allBelow, someBelow, meets};
-ghost use Rattle.inclusion.specs.Clauses.{clauseAt};
+ghost use Rattle.meaning.specs.Writing.{Ascending};
+ghost use Rattle.meaning.specs.Sets.{allBelow, someBelow, meets};
+ghost use Rattle.clauses.specs.Clauses.{clauseAt};
 ghost use Rattle.inclusion.specs.Listed.{statesAt, leafHolds, AscendingAt, Shows};
 ghost use Rattle.inclusion.specs.Search.{holdsAt, showsIn, spared, Readable, Ready};
 

@@ -3,8 +3,8 @@ ghost use mathlib.Core.Path.{_≡_};
 ghost use Prim.Native.Nat.{ℕ, _<_, _≤_, _^_, _%_};
 ghost use mathlib.Core.Bool.{_&&_, _||_, not};
 ghost use lib.Dec.{eqb, ltb};
-ghost use Rattle.inclusion.specs.Meaning.{allBelow};
-ghost use Rattle.inclusion.specs.Clauses.{has};
+ghost use Rattle.meaning.specs.Sets.{allBelow};
+ghost use Rattle.task.specs.Inner.{has};
 ghost use Rattle.inclusion.specs.Marks.{marked, Marks};
 
 // The mark of a number in its word.

@@ -1,10 +1,10 @@
 -- Replies and answers as one number. Document 01's refusal numbers start at 1, so no refusal's code is 0 or 1.
 -- Assumes nothing.
 use Prim.Native.Nat.{ℕ, _+_, _*_}
-use Rattle.verifier.specs.declared.Reply.{Reply}
-use Rattle.verifier.specs.declared.Reply.the-variants.{Accepted, Refused}
-use Rattle.verifier.specs.declared.Answer.{Answer}
-use Rattle.verifier.specs.declared.Answer.the-variants as answer
+use Rattle.meaning.specs.declared.Reply.{Reply}
+use Rattle.meaning.specs.declared.Reply.the-variants.{Accepted, Refused}
+use Rattle.meaning.specs.declared.Answer.{Answer}
+use Rattle.meaning.specs.declared.Answer.the-variants as answer
 
 -- the number above the 32 bits of the place
 unfoldable pub refusalCode : ℕ → ℕ → ℕ

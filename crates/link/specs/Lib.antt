@@ -1,2 +1,1 @@
--- The specs of `link`.
 pub mod Code

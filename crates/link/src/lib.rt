@@ -1,11 +1,11 @@
 // The checker and the question for programs in C or Rust: each reply as one number.
-use verifier::Answer;
-use verifier::Reply;
+use meaning::Answer;
+use meaning::Reply;
 use verifier::ask::ask;
 use verifier::check;
 ghost use mathlib.Core.Path.{_≡_};
-ghost use Rattle.verifier.specs.Reply.{replyOf};
-ghost use Rattle.verifier.specs.Question.{answerOf};
+ghost use Rattle.meaning.specs.Reply.{replyOf};
+ghost use Rattle.meaning.specs.Question.{answerOf};
 ghost use Rattle.link.specs.Code.{refusalCode, codeOf, answerCodeOf};
 
 // A refusal as one number: the refusal number above the 32 bits of the place.

@@ -11,19 +11,19 @@ use denote.Enum.Declared.{tagOf}
 use types.Run.{OneOf, miss}
 use Rattle.certificate.specs.declared.Places.{Places}
 use Rattle.certificate.specs.declared.StateEntry.{StateEntry}
-use Rattle.certificate.specs.File.{Basic, StateSet, basic, complement, intersection, union, progression, regression, File, stateSetAt}
+use Rattle.meaning.specs.File.{Basic, StateSet, basic, complement, intersection, union, progression, regression, File, stateSetAt}
 use Rattle.certificate.specs.Views.{viewOf}
 use Rattle.certificate.specs.Known.{Known, decoded, statePlace}
-use Rattle.certificate.specs.Writing.{FitsStateSet}
+use Rattle.meaning.specs.Writing.{FitsStateSet}
 use Rattle.certificate.proofs.StateEntry.{the-type}
-use Rattle.certificate.proofs.Order.{state-set-fits}
+use Rattle.meaning.proofs.Order.{state-set-fits}
 use Rattle.certificate.proofs.SeenLaws.{StateSeen, view-seen}
 use Rattle.certificate.proofs.KnownLaws.{known-ordered, known-read, known-action-sets}
-use Rattle.inclusion.specs.Meaning.{rounds, stateNode, inSet}
-use Rattle.inclusion.proofs.Nodes.{in-node}
+use Rattle.meaning.specs.Sets.{rounds, stateNode, inSet}
+use Rattle.meaning.proofs.Nodes.{in-node}
 use Rattle.inclusion.proofs.FlatHolds.{items-at}
-use Rattle.verifier.specs.Question.{progressionNode, hasProgression, shallowNode, shallow}
-use Rattle.verifier.proofs.Shallow.{progression-node}
+use Rattle.meaning.specs.Question.{progressionNode, hasProgression, shallowNode, shallow}
+use Rattle.meaning.proofs.Shallow.{progression-node}
 
 neither : (a b : Bool) → (a || b) ≡ false → (a ≡ false) × (b ≡ false)
 neither false b h = (refl, h)

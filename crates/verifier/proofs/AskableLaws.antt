@@ -13,16 +13,16 @@ use lib.Pow.{pow-pos}
 use borrow.Author.Tests.{eq-eqb, ne-eqb, lt-ltb, le-ltb, not-true, not-false}
 use Rattle.task.proofs.Tests.{and-left, and-right, holds, is-true}
 use Rattle.certificate.specs.declared.Places.{Places}
-use Rattle.certificate.specs.Result.{refuse, found, need, _>>=_}
-use Rattle.certificate.specs.File.{File}
-use Rattle.certificate.specs.Layout.{readFile}
+use Rattle.meaning.specs.Result.{refuse, found, need, _>>=_}
+use Rattle.meaning.specs.File.{File}
+use Rattle.meaning.specs.Layout.{readFile}
 use Rattle.certificate.specs.Known.{Known, decoded}
 use Rattle.certificate.proofs.KnownLaws.{known-state-sets, known-facts}
-use Rattle.inclusion.specs.Meaning.{inSet}
-use Rattle.verifier.specs.declared.Answer.the-variants.{Refused}
-use Rattle.verifier.specs.Question.{depth, hasProgression, askable, shallow, answerTo, answerOf}
+use Rattle.meaning.specs.Sets.{inSet}
+use Rattle.meaning.specs.declared.Answer.the-variants.{Refused}
+use Rattle.meaning.specs.Question.{depth, hasProgression, askable, shallow, answerTo, answerOf}
 use Rattle.verifier.specs.Asked.{answerIn}
-use Rattle.verifier.proofs.Shallow.{shortcut}
+use Rattle.meaning.proofs.Shallow.{shortcut}
 
 -- the part of s from bit n on is 0 where s is below 2 ^ n
 pub high-part : (s n : ℕ) → eqb (s / 2 ^ n) 0 ≡ ltb s (2 ^ n)

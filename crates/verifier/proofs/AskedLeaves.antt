@@ -8,17 +8,17 @@ use lib.ListN.{getD}
 use lib.Dec.{T, eqb, leb}
 use Rattle.certificate.specs.declared.Places.{Places}
 use Rattle.certificate.specs.declared.StateEntry.{StateEntry}
-use Rattle.certificate.specs.File.{Basic, empty, init, goal, explicit, horn, twoCnf, basic, stateSetAt, basicKind, stateKind}
+use Rattle.meaning.specs.File.{Basic, empty, init, goal, explicit, horn, twoCnf, basic, stateSetAt, basicKind, stateKind}
 use Rattle.certificate.specs.Views.{viewOfBasic, viewOf, span}
 use Rattle.certificate.specs.Known.{Known, decoded, statePlace}
-use Rattle.certificate.specs.Writing.{Ascending, FitsBasic}
+use Rattle.meaning.specs.Writing.{Ascending, FitsBasic}
 use Rattle.certificate.proofs.EntryLaws.{BasicItems}
-use Rattle.inclusion.specs.Meaning.{inSet}
-use Rattle.inclusion.specs.Counter.{Leaf}
-use Rattle.inclusion.specs.Flat.{numbersOf, flag}
+use Rattle.meaning.specs.Sets.{inSet}
+use Rattle.shapes.specs.Counter.{Leaf}
+use Rattle.shapes.specs.Flat.{numbersOf, flag}
 use Rattle.inclusion.specs.Listed.{statesAt, leafHolds}
-use Rattle.inclusion.specs.Shapes.{kindAt, isBasic}
-use Rattle.inclusion.proofs.FlatLaws.{numberOf, viewAt, LeafIs}
+use Rattle.meaning.specs.Shapes.{kindAt, isBasic}
+use Rattle.shapes.proofs.FlatLaws.{numberOf, viewAt, LeafIs}
 use Rattle.inclusion.proofs.FlatHolds.{placeOf, countOf, states-stand, by-leaf, numbers-hold}
 
 basic-number : (p : ℕ) (b : Basic) → (numberOf 0 (viewOfBasic p b) ≡ basicKind b) × T (leb (basicKind b) 5)

@@ -13,21 +13,21 @@ use Rattle.certificate.specs.declared.Places.{Places}
 use Rattle.certificate.specs.declared.Outline.{Outline}
 use Rattle.certificate.specs.declared.Outline.the-variants as outline
 use Rattle.certificate.specs.declared.views.Fields.{Fields}
-use Rattle.certificate.specs.Result.{Result, refuse, found, _>>=_, need, known}
-use Rattle.certificate.specs.File.{Step, File, stepAt}
-use Rattle.certificate.specs.Layout.{readFile}
+use Rattle.meaning.specs.Result.{Result, refuse, found, _>>=_, need, known}
+use Rattle.meaning.specs.File.{Step, File, stepAt}
+use Rattle.meaning.specs.Layout.{readFile}
 use Rattle.certificate.specs.Views.{placesOf, outlineTo, outlineOf}
 use Rattle.certificate.specs.Index.{Index, fieldsOf}
 use Rattle.certificate.specs.Known.{Known, decoded, readOr}
 use Rattle.certificate.proofs.KnownLaws.{known-read, known-steps}
 use Rattle.derivation.specs.declared.reply.StepReply.{StepReply}
 use Rattle.derivation.specs.declared.reply.StepReply.the-variants as step
-use Rattle.derivation.specs.Step.{Check, statement, derivation, ruleAt, wellFormed, checkBy, checkStep}
-use Rattle.derivation.specs.Rules.{Rule, _⊢_}
+use Rattle.meaning.specs.Step.{Check, statement, derivation, ruleAt, wellFormed, checkBy, checkStep}
+use Rattle.meaning.specs.Rules.{Rule, _⊢_}
 use Rattle.derivation.specs.StepReply.{stepReply}
-use Rattle.verifier.specs.declared.Reply.{Reply}
-use Rattle.verifier.specs.declared.Reply.the-variants.{Accepted, Refused}
-use Rattle.verifier.specs.Reply.{checkSteps, checkFile, replyTo, replyOf}
+use Rattle.meaning.specs.declared.Reply.{Reply}
+use Rattle.meaning.specs.declared.Reply.the-variants.{Accepted, Refused}
+use Rattle.meaning.specs.Reply.{checkSteps, checkFile, replyTo, replyOf}
 
 -- ---- a step's refusal names the step
 

@@ -1,8 +1,3 @@
-pub mod Computed
-pub mod Points
-pub mod Judgements
-pub mod Certain
-pub mod Shallow
 pub mod AskLaws
 pub mod AskedLeaves
 pub mod TriedLaws

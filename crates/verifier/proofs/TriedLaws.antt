@@ -9,9 +9,9 @@ use lib.ListN.{length}
 use Rattle.task.specs.declared.Action.{Action}
 use Rattle.task.specs.Task.{Task, actionAt, applies, after}
 use Rattle.task.proofs.Tests.{holds, is-true}
-use Rattle.inclusion.specs.Meaning.{someBelow, someAction, regressed}
+use Rattle.meaning.specs.Sets.{someBelow, someAction, regressed}
 use Rattle.inclusion.specs.Marks.{marked, Marks}
-use Rattle.inclusion.proofs.Below.{some-of}
+use Rattle.meaning.proofs.Below.{some-of}
 
 module _ (t : Task) (states chosen : ℕ → Bool) (s : ℕ) where
   -- action i is chosen, applies and leads into the set

@@ -1,6 +1,1 @@
-pub mod Reply
-pub mod Question
 pub mod Asked
-pub mod Cases
-pub mod Certain
-pub mod Points

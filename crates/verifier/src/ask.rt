@@ -1,5 +1,5 @@
 // The question whether a state is in an entry's set.
-use crate::Answer;
+use meaning::Answer;
 use certificate::Outline;
 use certificate::Places;
 use certificate::StateEntry;
@@ -17,9 +17,9 @@ ghost use mathlib.Core.Bool.{false};
 ghost use Prim.Native.Nat.{_<_, _^_};
 ghost use lib.Dec.{ltb};
 ghost use Rattle.certificate.specs.Known.{Known, decoded};
-ghost use Rattle.inclusion.specs.Meaning.{inActions, regressed, inSet};
-ghost use Rattle.inclusion.specs.Flat.{numbersOf};
-ghost use Rattle.verifier.specs.Question.{hasProgression, shallow, askable, answerOf};
+ghost use Rattle.meaning.specs.Sets.{inActions, regressed, inSet};
+ghost use Rattle.shapes.specs.Flat.{numbersOf};
+ghost use Rattle.meaning.specs.Question.{hasProgression, shallow, askable, answerOf};
 ghost use Rattle.verifier.specs.Asked.{answerIn};
 
 // Whether an entry is at most d levels deep, with no progression on the way.

@@ -6,31 +6,19 @@ use certificate::layout::read_layout;
 use certificate::views::index_file;
 use derivation::reply::StepReply;
 use derivation::reply::check_step;
+use meaning::Reply;
 ghost use mathlib.Core.Path.{_≡_};
 ghost use Prim.Native.Nat.{_-_};
 ghost use lib.Dec.{eqb};
 ghost use Rattle.task.specs.Reach.{Safe};
-ghost use Rattle.certificate.specs.Result.{found, need};
-ghost use Rattle.certificate.specs.File.{File, stepAt};
-ghost use Rattle.certificate.specs.Layout.{readFile};
+ghost use Rattle.meaning.specs.Result.{found, need};
+ghost use Rattle.meaning.specs.File.{File, stepAt};
+ghost use Rattle.meaning.specs.Layout.{readFile};
 ghost use Rattle.certificate.specs.Known.{Known, decoded};
-ghost use Rattle.verifier.specs.declared.Reply.the-variants.{Accepted};
-ghost use Rattle.verifier.specs.Reply.{checkFile, replyTo, replyOf};
+ghost use Rattle.meaning.specs.declared.Reply.the-variants.{Accepted};
+ghost use Rattle.meaning.specs.Reply.{checkFile, replyTo, replyOf};
 
 pub mod ask;
-
-// The checker's reply: accepted, or document 01's refusal number and place.
-pub enum Reply {
-    Accepted,
-    Refused { number: u8, place: u32 },
-}
-
-// The answer to a question: in, out, or document 01's refusal number and place.
-pub enum Answer {
-    In,
-    Out,
-    Refused { number: u8, place: u32 },
-}
 
 // Whether the last step says "unsolvable".
 fn last_step(file: &[u8], at: Places, index: &[u16; 768]) -> Reply

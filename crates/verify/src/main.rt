@@ -1,7 +1,7 @@
 // Reads a file on standard input and prints the checker's reply to it, one line.
 use libc::STDIN_FILENO;
 use libc::STDOUT_FILENO;
-use verifier::Reply;
+use meaning::Reply;
 use verifier::check;
 
 fn print(reply: Reply) {

@@ -3,7 +3,7 @@
 use Prim.Native.Nat.{_/_}
 use lib.ListN.{length}
 use borrow.Author.Tests.{eqb-true}
-use Rattle.certificate.specs.Layout.{items, ascending, mask, reference, clause}
+use Rattle.meaning.specs.Layout.{items, ascending, mask, reference, clause}
 use Rattle.certificate.specs.Verdicts.{ruleOf}
 use Rattle.certificate.proofs.Verdicts.{from-unit}
 use Rattle.certificate.proofs.BodyLaws.{form-fits, form-says}

@@ -4,7 +4,7 @@
 use mathlib.Core.Path.{sym, _∙_}
 use Prim.Native.Nat.{_-_, _≤_, _<_}
 use borrow.Author.Tests.{not-false}
-use Rattle.certificate.specs.Layout.{mask}
+use Rattle.meaning.specs.Layout.{mask}
 use Rattle.certificate.proofs.ByteLaws.{inside-out}
 use Rattle.certificate.proofs.Verdicts.{ItemsLeft, items-start, items-done, item-bad, item-good}
 use Rattle.certificate.proofs.FieldLaws.{mask-cut, mask-in, mask-high}

@@ -4,7 +4,7 @@
 use Prim.Native.Nat.{_+_, _-_, _*_, _/_, _≤_}
 use native.Mathlib.Omega.{arith}
 use lib.ListN.{length}
-use Rattle.certificate.specs.Layout.{reference}
+use Rattle.meaning.specs.Layout.{reference}
 use Rattle.certificate.proofs.FieldLaws.{reference-in, reference-high}
 use Rattle.certificate.proofs.BodyLaws.{AscendingLeft, numbers-start, numbers-end, number-bad, number-low, number-next}
 use borrow.Author.Needs.{needs}

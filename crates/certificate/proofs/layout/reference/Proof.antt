@@ -1,7 +1,7 @@
 -- `certificate::layout::reference` meets its contract.
 -- Assumes nothing.
 use mathlib.Core.Path.{ap}
-use Rattle.certificate.specs.Layout.{reference}
+use Rattle.meaning.specs.Layout.{reference}
 use Rattle.certificate.proofs.Verdicts.{forget, from-fine, from-refused}
 use Rattle.certificate.proofs.FieldLaws.{reference-in, reference-high}
 use borrow.Author.Needs.{needs}

@@ -4,7 +4,7 @@
 use Prim.Native.Nat.{_+_, _-_, _*_, _/_, _≤_}
 use native.Mathlib.Omega.{arith}
 use lib.ListN.{length}
-use Rattle.certificate.specs.Layout.{mask}
+use Rattle.meaning.specs.Layout.{mask}
 use Rattle.certificate.proofs.FieldLaws.{mask-in, mask-high}
 use Rattle.certificate.proofs.BodyLaws.{AscendingLeft, numbers-start, numbers-end, number-bad, number-low, number-next, lowAfter, low-next, low-fails, low-holds}
 use borrow.Author.Needs.{needs}

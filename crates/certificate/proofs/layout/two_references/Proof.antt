@@ -1,6 +1,6 @@
 -- `certificate::layout::two_references` meets its contract.
 -- Assumes nothing.
-use Rattle.certificate.specs.Layout.{reference}
+use Rattle.meaning.specs.Layout.{reference}
 use Rattle.certificate.proofs.Verdicts.{from-on, from-stop, from-unit}
 use borrow.Author.Needs.{needs}
 use Rattle.certificate.proofs.layout.two_references.Statement.{statement}

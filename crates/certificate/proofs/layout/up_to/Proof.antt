@@ -1,6 +1,6 @@
 -- `certificate::layout::up_to` meets its contract.
 -- Assumes nothing.
-use Rattle.certificate.specs.Layout.{upTo}
+use Rattle.meaning.specs.Layout.{upTo}
 use borrow.Author.Needs.{needs}
 use Rattle.certificate.proofs.layout.up_to.Statement.{statement}
 use Rattle.certificate.proofs.layout.up_to.Tie as tie

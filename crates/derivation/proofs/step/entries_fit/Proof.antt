@@ -1,6 +1,6 @@
 -- `step::entries_fit` meets its contract: by the judgement kind, and the last arm is every other kind.
 -- Assumes nothing.
-use Rattle.derivation.specs.Step.{entriesFit}
+use Rattle.meaning.specs.Step.{entriesFit}
 use Rattle.derivation.proofs.FormedLaws.{entries-left}
 use Rattle.derivation.proofs.step.entries_fit.Statement.{statement}
 use Rattle.derivation.proofs.step.entries_fit.Tie as tie

@@ -6,7 +6,7 @@ use borrow.Author.Tests.{not-true}
 use Rattle.certificate.specs.declared.views.Fields.{Fields}
 use Rattle.certificate.specs.Views.{judgementOf}
 use Rattle.certificate.specs.Index.{fieldsOf}
-use Rattle.derivation.specs.Derives.{judgementAt}
+use Rattle.rules.specs.Derives.{judgementAt}
 use Rattle.derivation.proofs.FormedLaws.{said-past, unused}
 use Rattle.derivation.proofs.step.premise.Statement.{statement}
 use Rattle.derivation.proofs.step.premise.Tie as tie

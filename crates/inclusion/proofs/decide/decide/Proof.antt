@@ -6,9 +6,8 @@ use native.Mathlib.Omega.{arith}
 use lib.ListN.{getD, replicate}
 use borrow.Author.Needs.{needs}
 use Rattle.certificate.specs.Known.{decoded}
-use Rattle.certificate.proofs.KnownLaws.{known-ordered}
+use Rattle.certificate.proofs.KnownLaws.{known-ordered, known-bounded}
 use Rattle.inclusion.specs.Verdict.{verdictOf}
-use Rattle.inclusion.proofs.TaskBounds.{known-bounded}
 use Rattle.inclusion.proofs.VerdictLaws.{verdict-actions, verdict-refused, verdict-decided, actions-in-file}
 use Rattle.inclusion.proofs.decide.decide.Statement.{statement}
 use Rattle.inclusion.proofs.decide.decide.Tie as tie

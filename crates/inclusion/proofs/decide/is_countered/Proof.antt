@@ -1,7 +1,7 @@
 -- `decide::is_countered`: with a bracket some action of its set, else the action that does nothing.
 -- Assumes nothing.
 use Rattle.certificate.specs.Known.{decoded}
-use Rattle.inclusion.specs.Counter.{noAction}
+use Rattle.task.specs.Inner.{noAction}
 use Rattle.inclusion.proofs.FlatFits.{none-fits}
 use Rattle.inclusion.proofs.VerdictLaws.{countered-one, countered-some, below-bracket, above-bracket}
 use Rattle.inclusion.proofs.decide.is_countered.Statement.{statement}

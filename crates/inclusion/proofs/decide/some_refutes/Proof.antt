@@ -7,11 +7,11 @@ use native.Mathlib.Omega.{arith}
 use lib.ListN.{length}
 use lib.Dec.{T}
 use borrow.Author.Needs.{needs}
-use Rattle.certificate.specs.File.{File}
+use Rattle.meaning.specs.File.{File}
 use Rattle.certificate.specs.Known.{decoded}
 use Rattle.certificate.proofs.KnownLaws.{known-fit, known-actions}
-use Rattle.inclusion.specs.Meaning.{inActions}
-use Rattle.inclusion.specs.Gathered.{leftOf, rightOf}
+use Rattle.meaning.specs.Sets.{inActions}
+use Rattle.shapes.specs.Gathered.{leftOf, rightOf}
 use Rattle.inclusion.proofs.FlatFits.{action-fits}
 use Rattle.inclusion.proofs.TryLaws.{NoneYet, none-yet, none-tried, none-skipped, some-found, none-found}
 use Rattle.inclusion.proofs.decide.some_refutes.Statement.{statement}

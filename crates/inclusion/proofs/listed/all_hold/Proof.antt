@@ -7,7 +7,7 @@ use mathlib.Core.Bool.{true, _||_}
 use lib.Dec.{eqb}
 use borrow.Author.Needs.{needs}
 use borrow.Author.Tests.{eq-eqb, ne-eqb, not-true, not-false}
-use Rattle.inclusion.specs.Meaning.{allBelow}
+use Rattle.meaning.specs.Sets.{allBelow}
 use Rattle.inclusion.specs.Search.{holdsAt}
 use Rattle.inclusion.proofs.ListedLaws.{all-none, all-more, all-fails, all-done, leaf-ready}
 use Rattle.inclusion.proofs.listed.all_hold.Statement.{statement}

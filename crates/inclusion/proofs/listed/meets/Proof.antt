@@ -1,7 +1,7 @@
 -- `inclusion::listed::meets` meets its contract.
 -- Assumes nothing.
 use borrow.Author.Needs.{needs}
-use Rattle.inclusion.specs.Meaning.{meets}
+use Rattle.meaning.specs.Sets.{meets}
 use Rattle.inclusion.proofs.listed.meets.Statement.{statement}
 use Rattle.inclusion.proofs.listed.meets.Tie as tie
 

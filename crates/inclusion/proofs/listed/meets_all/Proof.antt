@@ -6,8 +6,8 @@ use mathlib.Core.Bool.{Bool, true}
 use mathlib.Core.List.{List}
 use borrow.Author.Needs.{needs}
 use borrow.Author.Tests.{not-true, not-false}
-use Rattle.inclusion.specs.Meaning.{allBelow, meets}
-use Rattle.inclusion.specs.Clauses.{clauseAt}
+use Rattle.meaning.specs.Sets.{allBelow, meets}
+use Rattle.clauses.specs.Clauses.{clauseAt}
 use Rattle.inclusion.proofs.ListedLaws.{all-none, all-more, all-fails, all-done, clause-read}
 use Rattle.inclusion.proofs.listed.meets_all.Statement.{statement}
 use Rattle.inclusion.proofs.listed.meets_all.Tie as tie

@@ -4,7 +4,7 @@ use Prim.Native.Nat.{_-_, _≤_}
 use mathlib.Core.Path.{_≡_, ap, sym, _∙_}
 use mathlib.Core.Bool.{true, not}
 use borrow.Author.Needs.{needs}
-use Rattle.inclusion.specs.Meaning.{allBelow}
+use Rattle.meaning.specs.Sets.{allBelow}
 use Rattle.inclusion.specs.Search.{holdsAt}
 use Rattle.inclusion.proofs.ListedLaws.{all-none, all-more, all-fails, all-done, leaf-ready}
 use Rattle.inclusion.proofs.listed.none_holds.Statement.{statement}

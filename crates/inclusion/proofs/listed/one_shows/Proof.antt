@@ -4,7 +4,7 @@ use Prim.Native.Nat.{_-_, _≤_}
 use mathlib.Core.Path.{_≡_, ap, sym, _∙_}
 use mathlib.Core.Bool.{false}
 use borrow.Author.Needs.{needs}
-use Rattle.inclusion.specs.Meaning.{someBelow}
+use Rattle.meaning.specs.Sets.{someBelow}
 use Rattle.inclusion.specs.Search.{showsIn}
 use Rattle.inclusion.proofs.SearchLaws.{word}
 use Rattle.inclusion.proofs.ListedLaws.{some-none, some-more, some-found, some-done}

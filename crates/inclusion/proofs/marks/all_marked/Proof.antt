@@ -2,7 +2,7 @@
 -- Assumes nothing.
 use mathlib.Core.Bool.{not, _||_}
 use lib.ListN.{getD}
-use Rattle.inclusion.specs.Clauses.{has}
+use Rattle.task.specs.Inner.{has}
 use Rattle.inclusion.specs.Marks.{marked}
 use Rattle.inclusion.proofs.MarkLaws.{all-four}
 use borrow.Author.Needs.{needs}

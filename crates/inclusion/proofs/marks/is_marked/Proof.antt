@@ -1,7 +1,7 @@
 -- `marks::is_marked`: the mark of a number in its word.
 -- Assumes nothing.
 use mathlib.Core.Path.{refl}
-use Rattle.inclusion.specs.Clauses.{has}
+use Rattle.task.specs.Inner.{has}
 use Rattle.inclusion.specs.Marks.{marked}
 use borrow.Author.Needs.{needs}
 use Rattle.inclusion.proofs.marks.is_marked.Statement.{statement}

@@ -7,11 +7,11 @@ use mathlib.Core.Bool.{_&&_}
 use borrow.Fn.Kinds.{In}
 use borrow.Fn.PlainCycle.{Measures, is, falls, and}
 use Rattle.certificate.specs.declared.StateEntry.{StateEntry}
-use Rattle.certificate.specs.File.{StateSet, File, stateSetAt}
+use Rattle.meaning.specs.File.{StateSet, File, stateSetAt}
 use Rattle.certificate.specs.Known.{decoded}
 use Rattle.certificate.proofs.SeenLaws.{StateSeen}
-use Rattle.inclusion.specs.Meaning.{rounds}
-use Rattle.verifier.specs.Question.{shallowNode, shallow}
+use Rattle.meaning.specs.Sets.{rounds}
+use Rattle.meaning.specs.Question.{shallowNode, shallow}
 use Rattle.verifier.proofs.AskLaws.{seen, leaf-seen, shallow-at}
 use Rattle.verifier.proofs.ask.is_shallow.Reads as is-shallow
 use Rattle.verifier.proofs.ask.is_shallow.Kinds as is-shallow-kinds

@@ -12,14 +12,14 @@ use types.Run.{OneOf}
 use borrow.Fn.Kinds.{In}
 use borrow.Fn.PlainCycle.{Measures, is, falls, and}
 use Rattle.certificate.specs.declared.StateEntry.{StateEntry}
-use Rattle.certificate.specs.File.{Basic, StateSet, basic, File, stateSetAt}
+use Rattle.meaning.specs.File.{Basic, StateSet, basic, File, stateSetAt}
 use Rattle.certificate.specs.Known.{Known, decoded}
-use Rattle.certificate.specs.Writing.{FitsStateSet}
+use Rattle.meaning.specs.Writing.{FitsStateSet}
 use Rattle.certificate.proofs.StateEntry.{the-type}
 use Rattle.certificate.proofs.KnownLaws.{known-fit, known-actions}
 use Rattle.certificate.proofs.SeenLaws.{StateSeen}
-use Rattle.inclusion.specs.Meaning.{stateNode, inSet, inActions}
-use Rattle.verifier.specs.Question.{hasProgression}
+use Rattle.meaning.specs.Sets.{stateNode, inSet, inActions}
+use Rattle.meaning.specs.Question.{hasProgression}
 use Rattle.verifier.proofs.AskLaws.{Clear, leafTags, seen, leaf-seen, clear-at, in-at, fits-at}
 use Rattle.verifier.proofs.AskedLeaves.{leaf-ascends, leaf-in}
 use Rattle.verifier.proofs.TriedLaws.{NoneOf, none-first, none-more, none-leads, one-leads, Tried, tried}

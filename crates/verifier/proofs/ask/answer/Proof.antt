@@ -3,7 +3,7 @@
 use borrow.Author.Needs.{needs}
 use native.Mathlib.Omega.{arith}
 use mathlib.Core.Bool.{true, false}
-use Rattle.verifier.specs.Question.{answerTo}
+use Rattle.meaning.specs.Question.{answerTo}
 use Rattle.verifier.proofs.AskableLaws.{asked, refused, answered}
 use Rattle.verifier.proofs.ask.answer.Statement.{statement}
 use Rattle.verifier.proofs.ask.answer.Tie as tie

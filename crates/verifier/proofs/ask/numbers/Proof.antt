@@ -2,7 +2,7 @@
 -- Assumes nothing.
 use mathlib.Core.Path.{refl}
 use borrow.Author.Needs.{needs}
-use Rattle.inclusion.specs.Flat.{numbersOf}
+use Rattle.shapes.specs.Flat.{numbersOf}
 use Rattle.verifier.proofs.ask.numbers.Statement.{statement}
 use Rattle.verifier.proofs.ask.numbers.Tie as tie
 

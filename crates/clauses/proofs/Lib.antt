@@ -1,0 +1,11 @@
+pub mod OneFact
+pub mod ClauseLaws
+pub mod UnitLaws
+pub mod PassLaws
+pub mod CodeLaws
+pub mod ClauseShapes
+pub mod AssumeLaws
+pub mod FillLaws
+pub mod LeafLaws
+pub mod StartLaws
+pub mod SeekLaws

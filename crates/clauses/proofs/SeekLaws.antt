@@ -1,0 +1,187 @@
+-- The search: telling open facts of two-literal leaves, the right leaves in turn, and where the search starts.
+-- Assumes nothing.
+use Prim.Native.Nat.{ℕ, _+_, _-_, _/_, _%_, _≤_, _<_, _^_}
+use mathlib.Core.Path.{_≡_, sym, ap, subst, _∙_}
+use mathlib.Core.Bool.{Bool, true, false, not, true≢false}
+use mathlib.Core.List.{List}
+use native.Mathlib.Omega.{arith}
+use native.Mathlib.Decide.{decLt}
+use native.Mathlib.Nat.{le-refl}
+use lib.Bits.{bitOr}
+use lib.Dec.{T}
+use Rattle.task.specs.declared.Action.{Action}
+use Rattle.task.proofs.Tests.{not-of, is-true}
+use Rattle.task.proofs.Bits.{bit, bit-none, bit-or}
+use Rattle.meaning.specs.declared.Clause.{Clause}
+use Rattle.clauses.specs.declared.Assignment.{Assignment}
+use Rattle.meaning.specs.Sets.{meets}
+use Rattle.clauses.specs.Clauses.{OfLeaves}
+use Rattle.clauses.specs.Propagation.{value, Apart, Meets, Fails, Settled, Tells, Going, Assumed, Decided, Fillable, Ready, Model, Witness, Usable}
+use Rattle.clauses.proofs.OneFact.{bit-same, bit-only}
+use Rattle.clauses.proofs.ClauseLaws.{Has, met-by}
+use Rattle.clauses.proofs.CodeLaws.{count-words, pulled-by}
+use Rattle.clauses.proofs.PassLaws.{going-none, going-more, going-under}
+use Rattle.clauses.proofs.ClauseShapes.{Shaped, shaped-at, shaped-pulled}
+use Rattle.clauses.proofs.FillLaws.{on-agrees, full-fills, overlay, overlay-agrees, two-fills}
+use Rattle.clauses.proofs.AssumeLaws.{against, agrees-before}
+use Rattle.clauses.proofs.LeafLaws.{kindOf, placeOf, countOf, actionOf, of-leaf}
+
+-- ---- the clauses of usable leaves have their shape
+
+pub usable-shaped : (bytes : List ℕ) (init goal : ℕ) (a : Action) (leaves : List ℕ) (m : ℕ) (two : Bool) → Usable bytes leaves m two → (c : Clause) → OfLeaves bytes init goal a leaves m c → Shaped two c
+usable-shaped bytes init goal a leaves m two u c p =
+    let j = p .0 in
+    let q = of-leaf bytes init goal a leaves j c (p .2) in
+    let shape = shaped-at bytes init goal (placeOf bytes init goal a leaves j) (q .0) two (kindOf bytes init goal a leaves j)
+    (λ l. u .shape j (q .0) (p .1) l (subst (λ (k : ℕ). q .0 < k) (count-words (kindOf bytes init goal a leaves j) (countOf bytes init goal a leaves j) l) (q .1))) in
+    subst (Shaped two) (sym (q .2 ∙ pulled-by (actionOf bytes init goal a leaves j) _)) (shaped-pulled two (actionOf bytes init goal a leaves j) _ shape)
+
+-- ---- a test that is known
+
+pub tells-yes : {X : Type 0} → X → Tells true X
+tells-yes x = record { finds = λ t. x; sees = λ y. tt }
+
+pub tells-no : {X : Type 0} → (X → ⊥) → Tells false X
+tells-no n = record { finds = λ t. absurd t; sees = λ y. n y }
+
+-- where the test fails there is none
+pub tells-not : {X : Type 0} {r : Bool} → Tells r X → r ≡ false → X → ⊥
+tells-not {X} {r} k e x = true≢false (sym (is-true r (k .sees x)) ∙ e)
+
+-- ---- one fact
+
+-- the fact is told off, or on
+abbrev pub offClause : ℕ → Clause
+offClause i = record { positive = 2 ^ i; negative = 0 }
+
+abbrev pub onClause : ℕ → Clause
+onClause i = record { positive = 0; negative = 2 ^ i }
+
+module _ (P : Clause → Type 0) (x : Assignment) (i : ℕ) where
+  pub decided-already : bitOr (x .on) (x .off) / 2 ^ i % 2 ≡ 1 → Decided P i x x
+  unfolding bit
+  decided-already e =
+      record {
+        goes = going-none _ x;
+        known = omega (arith, bit-or i (x .on) (x .off));
+        settled = λ z h. h;
+        none = λ t s g m. true≢false (sym t ∙ g .calm);
+      }
+
+  pub decided-off : (y : Assignment) → Assumed P (offClause i) x y → y .conflict ≡ false → Decided P i x y
+  decided-off y u z =
+      record {
+        goes = going-under (λ s p. absurd p) (u .goes);
+        known = omega (arith, u .told true i (bit-same i));
+        settled = u .settled;
+        none = λ t. absurd (true≢false (sym t ∙ z));
+      }
+
+  pub decided-on : (y r : Assignment) → Assumed P (offClause i) x y → y .conflict ≡ true → Assumed P (onClause i) x r → Decided P i x r
+  decided-on y r u t v =
+      record {
+        goes = going-under (λ s p. absurd p) (v .goes);
+        known = omega (arith, v .told false i (bit-same i));
+        settled = v .settled;
+        none = λ t′ s g m. elim (decLt (bit i s) 1) [
+          | yes l ↦ true≢false (sym t ∙ u .goes .sound s (m, not-of (meets s (offClause i)) (λ k. off-met s l (met-by s (offClause i) k))) g .calm)
+          | no l ↦ true≢false (sym t′ ∙ v .goes .sound s (m, not-of (meets s (onClause i)) (λ k. on-met s l (met-by s (onClause i) k))) g .calm)
+        ];
+      }
+    where
+      off-met : (s : ℕ) → bit i s < 1 → (b : Bool) × (f : ℕ) × Has (offClause i) b f × (bit f s ≡ value b) → ⊥
+      off-met s l (true, f, h, v) = omega (arith, ap (λ (k : ℕ). bit k s) (bit-only f i h))
+      off-met s l (false, f, h, v) = omega (arith, bit-none f)
+
+      on-met : (s : ℕ) → (bit i s < 1 → ⊥) → (b : Bool) × (f : ℕ) × Has (onClause i) b f × (bit f s ≡ value b) → ⊥
+      on-met s l (true, f, h, v) = omega (arith, bit-none f)
+      on-met s l (false, f, h, v) = omega (arith, ap (λ (k : ℕ). bit k s) (bit-only f i h))
+
+-- ---- one fact after the other
+
+-- the first i facts are known
+pub record Trying (P : Clause → Type 0) (i : ℕ) (x r : Assignment) : Type 0 where
+  pub goes : Going (λ s. ⊥) x r
+  pub calm : r .conflict ≡ false
+  pub apart : Apart r
+  pub settled : Settled P r
+  pub known : (f : ℕ) → f < i → 1 ≤ bit f (r .on) + bit f (r .off)
+
+module _ (P : Clause → Type 0) where
+  pub trying-none : (x : Assignment) → x .conflict ≡ false → Ready P x → Trying P 0 x x
+  trying-none x z r = record { goes = going-none _ x; calm = z; apart = r .apart z; settled = r .settled z; known = λ f l. absurd (omega arith) }
+
+  pub trying-more : {i : ℕ} {x y r : Assignment} → Trying P i x y → Decided P i y r → r .conflict ≡ false → Trying P (i + 1) x r
+  trying-more {i} {x} {y} {r} u v z =
+      record {
+        goes = going-more (λ s p. absurd p) (u .goes) (v .goes);
+        calm = z;
+        apart = v .goes .apart z (u .apart);
+        settled = v .settled z (u .settled);
+        known = λ f l. elim (decLt f i) [
+          | yes k ↦ omega (arith, u .known f k, v .goes .grows true f, v .goes .grows false f)
+          | no k ↦ let e : f ≡ i = omega arith in rw e (v .known)
+        ];
+      }
+
+  -- every fact is known: the facts that are on are a model
+  pub trying-done : {i : ℕ} {x r : Assignment} → 64 ≤ i → Trying P i x r → r .on < 2 ^ 64 → Model P x
+  trying-done {i} {x} {r} l u fits =
+      (r .on, agrees-before (λ s. ⊥) x r (r .on) (u .goes) (on-agrees P r fits (u .calm) (u .apart) (u .settled)), full-fills P r fits (u .calm) (u .apart) (u .settled) (λ f k. u .known f (omega arith)))
+
+  -- neither value of a fact can be: there is no model, since what is known could be put into it
+  pub trying-none-left : ((c : Clause) → P c → Shaped true c) → {i : ℕ} {x y r : Assignment} → Trying P i x y → y .on < 2 ^ 64 → Decided P i y r → r .conflict ≡ true → Model P x → ⊥
+  trying-none-left two {i} {x} {y} {r} u fits v t (s, g, m) =
+      v .none t (overlay P y fits (u .calm) (u .apart) (u .settled) s (g .fits) m) (overlay-agrees P y fits (u .calm) (u .apart) (u .settled) s (g .fits) m)
+      (two-fills P y fits (u .calm) (u .apart) (u .settled) s (g .fits) m two)
+
+-- ---- the right leaves in turn
+
+pub ready-next : {P : Clause → Type 0} {c : Clause} {x y : Assignment} → Ready P x → Assumed P c x y → Ready P y
+ready-next r u = record { apart = λ z. u .goes .apart z (r .apart (u .goes .calm z)); settled = λ z. u .settled z (r .settled (u .goes .calm z)) }
+
+module _ (P : Clause → Type 0) (Q : ℕ → Clause → Type 0) where
+  pub witness-calm : {j : ℕ} {x : Assignment} → x .conflict ≡ true → Witness P Q j x → ⊥
+  witness-calm t w = true≢false (sym t ∙ w .agrees .calm)
+
+  pub witness-base : {j : ℕ} {x : Assignment} → j ≡ 2 → Fillable P → Ready P x → x .on < 2 ^ 64 → x .conflict ≡ false → Witness P Q j x
+  witness-base {j} {x} e fill r fits z =
+      let q = fill x fits z (r .apart z) (r .settled z) in
+      record { state = q .0; agrees = q .1; meets-left = q .2; fails = λ k l h. absurd (omega arith) }
+
+  pub witness-found : {j : ℕ} {c : Clause} {x y : Assignment} → Q j c → Assumed P c x y → Witness P Q (j + 1) y → Witness P Q j x
+  witness-found {j} {c} {x} {y} q u w =
+      record {
+        state = w .state;
+        agrees = agrees-before (λ s. Meets P s × T (not (meets s c))) x y (w .state) (u .goes) (w .agrees);
+        meets-left = w .meets-left;
+        fails = λ k l h. elim (decLt j k) [
+          | yes i ↦ w .fails k (omega arith) h
+          | no i ↦ let e : j ≡ k = omega arith in subst (λ (k : ℕ). Fails (Q k) (w .state)) e (c, q, against c y (u .told) (w .state) (w .agrees))
+        ];
+      }
+
+  -- no witness fails one of the first i clauses
+  abbrev pub Missing : (ℕ → Clause) → ℕ → ℕ → Assignment → Type 0
+  Missing at i j x = (w : Witness P Q (j + 1) x) (k : ℕ) → k < i → T (not (meets (w .state) (at k))) → ⊥
+
+  pub missing-more : (at : ℕ → Clause) (i j : ℕ) {x y : Assignment} → Missing at i j x → Assumed P (at i) x y → (Witness P Q (j + 1) y → ⊥) → Missing at (i + 1) j x
+  missing-more at i j {x} {y} h u n w k l t =
+      elim (decLt k i) [
+        | yes p ↦ h w k p t
+        | no p ↦
+            let e : k ≡ i = omega arith in
+            n (record {
+              state = w .state;
+              agrees = u .goes .sound (w .state) (w .meets-left, subst (λ (k : ℕ). T (not (meets (w .state) (at k)))) e t) (w .agrees);
+              meets-left = w .meets-left;
+              fails = w .fails;
+            })
+      ]
+
+  pub missing-all : (at : ℕ → Clause) (i j : ℕ) {x : Assignment} → j < 2 → ((c : Clause) → Q j c → (k : ℕ) × (k < i) × (c ≡ at k)) → Missing at i j x → Witness P Q j x → ⊥
+  missing-all at i j {x} l of h w =
+      let r = w .fails j (le-refl j) l in
+      let q = of (r .0) (r .1) in
+      h (record { state = w .state; agrees = w .agrees; meets-left = w .meets-left; fails = λ k m. w .fails k (omega arith) }) (q .0) (q .1)
+      (subst (λ (c : Clause). T (not (meets (w .state) c))) (q .2) (r .2))

@@ -1,0 +1,21 @@
+-- `inclusion::clauses::assume` meets its contract.
+-- Assumes nothing.
+use Rattle.clauses.proofs.AssumeLaws.{assumed-conflict, assumed-same, assumed-solved}
+use Rattle.task.proofs.Tests.{holds}
+use borrow.Author.Needs.{needs}
+use Rattle.clauses.proofs.assume.Statement.{statement}
+use Rattle.clauses.proofs.assume.Tie as tie
+
+returns : tie.Need-returns
+returns c = assumed-conflict _ _ _ _ (c .before .opposite .ensures) (c .if1 .taken)
+
+returns-2 : tie.Need-returns-2
+returns-2 c = assumed-same _ _ _ _ (c .before .before .before .opposite .ensures) (c .before .alike .ensures .finds (holds (c .if2 .taken)))
+
+returns-3 : tie.Need-returns-3
+returns-3 c = assumed-solved _ _ _ _ (c .before .before .before .before .opposite .ensures) _ (c .solve .ensures)
+
+pub assume-spec : {M : Type 1} → statement M
+assume-spec =
+    tie.close
+    (tie.spec (λ c κs. search needs) returns (λ c κs. search needs) returns-2 (λ c κs. search needs) returns-3)

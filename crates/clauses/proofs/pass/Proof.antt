@@ -1,0 +1,45 @@
+-- `inclusion::clauses::pass` meets its contract.
+-- Assumes nothing.
+use Rattle.clauses.specs.Clauses.{OfLeaf}
+use borrow.Author.Needs.{needs}
+use Rattle.clauses.proofs.PassLaws.{passed-none, passed-more, passed-early}
+use Rattle.clauses.specs.Propagation.{Below, LeafOf, Passed}
+use native.Mathlib.Omega.{arith}
+use mathlib.Core.Path.{_≡_}
+use Prim.Native.Nat.{_≤_, _-_}
+use Rattle.clauses.proofs.pass.Statement.{statement}
+use Rattle.clauses.proofs.pass.Tie as tie
+
+abbrev Inv-loop : tie.InvT-loop
+Inv-loop file left k m x₀ j₀ x j = (j ≤ m) × Passed (Below (LeafOf file left k) j) x₀ x
+
+abbrev μ-loop : tie.MeasureT-loop
+μ-loop file left k m x₀ j₀ x j = m - j
+
+loop-holds : tie.Need-loop-holds Inv-loop μ-loop
+loop-holds c = (search needs, passed-none _ _)
+
+returns : tie.Need-returns Inv-loop μ-loop
+returns c = passed-early (OfLeaf _ _ _ _ _) _ _ (search needs) (c .if1 .taken) (c .before .before .before .loop .inv .1) (c .before .pass-leaf .ensures)
+
+loop-again : tie.Need-loop-again Inv-loop μ-loop
+loop-again c = (search needs, passed-more (OfLeaf _ _ _ _ _) _ (c .before .before .before .loop .inv .1) (c .before .pass-leaf .ensures))
+
+returns-2 : tie.Need-returns-2 Inv-loop μ-loop
+returns-2 c =
+    let e : c .before .loop .j ≡ c .before .before .before .before .args .k .m = omega arith in
+    rw e at (c .before .loop .inv .1)
+
+pub pass-spec : {M : Type 1} → statement M
+pass-spec =
+    tie.close
+    (tie.spec
+    Inv-loop
+    μ-loop
+    loop-holds
+    (λ c κs. search needs)
+    returns
+    (λ c. search needs)
+    (λ c. search needs)
+    loop-again
+    returns-2)

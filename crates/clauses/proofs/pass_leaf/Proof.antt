@@ -1,0 +1,41 @@
+-- `inclusion::clauses::pass_leaf` meets its contract.
+-- Assumes nothing.
+use Rattle.clauses.proofs.LeafLaws.{passed-kind, passed-words}
+use borrow.Author.Needs.{needs}
+use Rattle.clauses.proofs.pass_leaf.Statement.{statement}
+use Rattle.clauses.proofs.pass_leaf.Tie as tie
+
+returns : tie.Need-returns
+returns c =
+    let a = c .before .before .before .before .before .before .before .before .before .args in
+    passed-kind (a .file .now) (a .k .init) (a .k .goal) (a .k .action) (a .leaves .now) (a .j) (rw (c .before .before .effect-of .ensures) at (c .pass-any .ensures))
+
+returns-2 : tie.Need-returns-2
+returns-2 c =
+    let a = c .before .before .before .before .before .before .before .before .before .args in
+    passed-words (a .file .now) (a .k .init) (a .k .goal) (a .k .action) (a .leaves .now) (a .j) (search needs) (rw (c .before .before .effect-of .ensures) at (c .pass-words .ensures))
+
+pub pass-leaf-spec : {M : Type 1} → statement M
+pass-leaf-spec =
+    tie.close
+    (tie.spec
+    (λ c. search needs)
+    (λ c. search needs)
+    (λ c. search needs)
+    (λ c. search needs)
+    (λ c. search needs)
+    (λ c. search needs)
+    (λ c. search needs)
+    (λ c. search needs)
+    (λ c. search needs)
+    (λ c. search needs)
+    (λ c. search needs)
+    (λ c. search needs)
+    (λ c. search needs)
+    (λ c. search needs)
+    (λ c. search needs)
+    (λ c κs. search needs)
+    (λ c κs. search needs)
+    returns
+    (λ c κs. search needs)
+    returns-2)

@@ -1,0 +1,138 @@
+-- What is known of a file that is read: all of it is within the format's limits.
+-- Assumes nothing.
+use mathlib.Core.Path.{_≡_, refl, sym, ap, subst}
+use Prim.Native.Nat.{ℕ, _+_, _*_, _<_, _≤_}
+use mathlib.Core.Bool.{_&&_}
+use mathlib.Core.List.{List}
+use lib.ListN.{length}
+use lib.Dec.{eqb, leb, leb→le}
+use Rattle.task.specs.Task.{Task}
+use Rattle.meaning.specs.Result.{found}
+use Rattle.meaning.specs.Bytes.{number, inside}
+use Rattle.meaning.specs.File.{Step, File}
+use Rattle.meaning.specs.Layout.{items, field, count, mask, action, step, actionKinds, stateKinds, entries, readTask, readFile}
+use Rattle.meaning.specs.Writing.{AllFrom, All, FitsAction, FitsTask, FitsActionSet, FitsStateSet, FitsStep, Fits}
+use Rattle.meaning.proofs.Results.{found-same, bind-case, need-case, and-out}
+use Rattle.meaning.proofs.Numbers.{number-lt}
+use Rattle.meaning.proofs.Given.{Gives, mask-gives, count-gives, action-gives, items-give, action-sets-give, state-sets-give}
+
+read-task : (bytes : List ℕ) (r : Task × ℕ) → readTask bytes ≡ found r → FitsTask (r .0) × (r .1 ≡ 24 + 24 * length (r .0 .actions))
+unfolding readTask
+read-task bytes r e =
+    bind-case (field bytes 1 4) _ r e λ v _ e₁.
+    need-case (eqb v 1) 2 4 _ r e₁ λ _ e₂.
+    bind-case (field bytes 1 5) _ r e₂ λ n _ e₃.
+    need-case (leb 1 n && leb n 64) 4 5 _ r e₃ λ n! e₄.
+    bind-case (mask bytes n 6) _ r e₄ λ s s! e₅.
+    bind-case (mask bytes n 14) _ r e₅ λ g g! e₆.
+    bind-case (count bytes 0 256 22) _ r e₆ λ m m! e₇.
+    bind-case (items (action bytes n) 24 24 m) _ r e₇ λ acts acts! q.
+    let h = items-give (FitsAction n) (action bytes n) 24 (action-gives bytes n) m 0 24 acts acts! in
+    let b = and-out (leb 1 n) (leb n 64) n! in
+    subst (λ (x : Task × ℕ). FitsTask (x .0) × (x .1 ≡ 24 + 24 * length (x .0 .actions))) (found-same q) (
+      record {
+        some-facts = leb→le 1 n (b .0);
+        few-facts = leb→le n 64 (b .1);
+        init = mask-gives bytes n 6 s s!;
+        goal = mask-gives bytes n 14 g g!;
+        few-actions = subst (λ (l : ℕ). l ≤ 256) (sym (h .0)) (count-gives bytes 0 256 22 m m! .1);
+        actions = h .1;
+      },
+      ap (λ (k : ℕ). 24 + 24 * k) (sym (h .0)),
+    )
+
+-- the task's fields end where its actions do
+pub task-end : (bytes : List ℕ) (t : Task) (end : ℕ) → readTask bytes ≡ found (t, end) → end ≡ 24 + 24 * length (t .actions)
+task-end bytes t end e = read-task bytes (t, end) e .1
+
+-- a task that is read is within the limits
+pub task-fits : (bytes : List ℕ) (t : Task) (end : ℕ) → readTask bytes ≡ found (t, end) → FitsTask t
+task-fits bytes t end e = read-task bytes (t, end) e .0
+
+-- what is known of a file without a bound on the list's numbers
+pub record Read (bytes : List ℕ) (f : File) : Type 0 where
+  pub end : ℕ
+  pub table : readTask bytes ≡ found (f .task, end)
+  pub task : FitsTask (f .task)
+  pub few-action-sets : length (f .actionSets) ≤ 256
+  pub action-sets : AllFrom (FitsActionSet (length (f .task .actions))) 0 (f .actionSets)
+  pub few-state-sets : length (f .stateSets) ≤ 512
+  pub state-sets : AllFrom (FitsStateSet (f .task .facts) (length (f .actionSets))) 0 (f .stateSets)
+  pub some-steps : 1 ≤ length (f .steps)
+  pub few-steps : length (f .steps) ≤ 2048
+  pub three : All (λ s. length (s .premises) ≡ 3) (f .steps)
+
+three-gives : (bytes : List ℕ) → Gives (λ s. length (s .premises) ≡ 3) (step bytes)
+unfolding step
+three-gives bytes p s e =
+    need-case (inside 12 bytes p) 3 p _ s e λ _ q.
+    subst (λ (x : Step). length (x .premises) ≡ 3) (found-same q) refl
+
+step-gives : (bytes : List ℕ) → All (λ b. b < 256) bytes → Gives FitsStep (step bytes)
+unfolding step
+step-gives bytes h p s e =
+    need-case (inside 12 bytes p) 3 p _ s e λ _ q.
+    subst FitsStep (found-same q)
+    (record {
+      rule = number-lt bytes h 1 p;
+      kind = number-lt bytes h 1 (p + 1);
+      left = number-lt bytes h 2 (p + 2);
+      right = number-lt bytes h 2 (p + 4);
+      three = refl;
+      premises = (number-lt bytes h 2 (p + 6), (number-lt bytes h 2 (p + 8), (number-lt bytes h 2 (p + 10), tt)));
+    })
+
+-- what is read is within the limits, with one more property of the steps
+file-read-with : (bytes : List ℕ) (Q : Step → Type 0) → Gives Q (step bytes) → (f : File) → readFile bytes ≡ found f → Read bytes f × All Q (f .steps)
+unfolding readFile
+file-read-with bytes Q given f e =
+    need-case (leb 4 (length bytes) && leb (length bytes) 65536) 1 0 _ f e λ _ e₁.
+    need-case (eqb (number 4 bytes 0 + 4) (length bytes)) 1 0 _ f e₁ λ _ e₂.
+    bind-case (readTask bytes) _ f e₂ λ t t! e₃.
+    bind-case (count bytes 0 256 (t .1)) _ f e₃ λ ac ac! e₄.
+    bind-case (entries bytes (actionKinds bytes (length (t .0 .actions))) 0 (t .1 + 2) ac) _ f e₄ λ es es! e₅.
+    bind-case (count bytes 0 512 (es .1)) _ f e₅ λ sc sc! e₆.
+    bind-case (entries bytes (stateKinds bytes (t .0 .facts) ac) 0 (es .1 + 2) sc) _ f e₆ λ ss ss! e₇.
+    bind-case (count bytes 1 2048 (ss .1)) _ f e₇ λ kc kc! e₈.
+    bind-case (items (step bytes) 12 (ss .1 + 2) kc) _ f e₈ λ ks ks! e₉.
+    need-case (leb (length bytes) (ss .1 + 2 + 12 * kc)) 3 (ss .1 + 2 + 12 * kc) _ f e₉ λ _ q.
+    let a = action-sets-give bytes (length (t .0 .actions)) ac (t .1 + 2) es es! in
+    let x = state-sets-give bytes (t .0 .facts) ac sc (es .1 + 2) ss ss! in
+    let k = items-give (λ (s : Step). length (s .premises) ≡ 3) (step bytes) 12 (three-gives bytes) kc 0 (ss .1 + 2) ks ks! in
+    let c = count-gives bytes 1 2048 (ss .1) kc kc! in
+    subst (λ (g : File). Read bytes g × All Q (g .steps)) (found-same q) (
+      record {
+        end = t .1;
+        table = t!;
+        task = read-task bytes t t! .0;
+        few-action-sets = subst (λ (l : ℕ). l ≤ 256) (sym (a .0)) (count-gives bytes 0 256 (t .1) ac ac! .1);
+        action-sets = a .1;
+        few-state-sets = subst (λ (l : ℕ). l ≤ 512) (sym (x .0)) (count-gives bytes 0 512 (es .1) sc sc! .1);
+        state-sets = subst (λ (m : ℕ). AllFrom (FitsStateSet (t .0 .facts) m) 0 (ss .0)) (sym (a .0)) (x .1);
+        some-steps = subst (λ (l : ℕ). 1 ≤ l) (sym (k .0)) (c .0);
+        few-steps = subst (λ (l : ℕ). l ≤ 2048) (sym (k .0)) (c .1);
+        three = k .1;
+      },
+      items-give Q (step bytes) 12 given kc 0 (ss .1 + 2) ks ks! .1,
+    )
+
+-- a file that is read is within the limits, but for the numbers of its steps
+pub file-read : (bytes : List ℕ) (f : File) → readFile bytes ≡ found f → Read bytes f
+file-read bytes f e = file-read-with bytes (λ s. length (s .premises) ≡ 3) (three-gives bytes) f e .0
+
+-- a file that is read from bytes is within the limits
+pub read-fits : (bytes : List ℕ) (f : File) → All (λ b. b < 256) bytes → readFile bytes ≡ found f → Fits f
+read-fits bytes f h e =
+    let r = file-read-with bytes FitsStep (step-gives bytes h) f e in
+    record {
+      task = r .0 .task;
+      certificate = record {
+        few-action-sets = r .0 .few-action-sets;
+        action-sets = r .0 .action-sets;
+        few-state-sets = r .0 .few-state-sets;
+        state-sets = r .0 .state-sets;
+        some-steps = r .0 .some-steps;
+        few-steps = r .0 .few-steps;
+        steps = r .1;
+      };
+    }

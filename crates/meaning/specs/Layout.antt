@@ -1,0 +1,228 @@
+-- How a file is read, front to back, with replies 1 to 7 at the written places and in the written order.
+-- Assumes nothing.
+use Prim.Native.Nat.{ℕ, zero, suc, _+_, _-_, _*_, _/_, _%_, _^_}
+use mathlib.Core.Bool.{Bool, _&&_}
+use mathlib.Core.List.{List, [], _∷_}
+use lib.ListN.{length, getElem?}
+use lib.Dec.{leb, ltb, eqb}
+use Rattle.task.specs.Task.{Task}
+use Rattle.task.specs.declared.Action.{Action}
+use Rattle.meaning.specs.declared.Clause.{Clause}
+use Rattle.meaning.specs.Result.{Result, found, _>>=_, need, known}
+use Rattle.meaning.specs.Bytes.{number, inside}
+use Rattle.meaning.specs.File.{ActionSet, all, listed, either, Basic, empty, init, goal, explicit, horn, twoCnf, StateSet, basic, complement, intersection, union, progression, regression, Step, File}
+
+-- ---- clauses
+
+-- how many of the first k facts a mask has
+unfoldable pub onesIn : ℕ → ℕ → ℕ
+onesIn zero m = 0
+onesIn (suc k) m = m % 2 + onesIn k (m / 2)
+
+-- at most one positive fact
+unfoldable pub hornRule : ℕ → ℕ → Bool
+hornRule positive negative = leb (onesIn 64 positive) 1
+
+-- at most two in the two masks together
+unfoldable pub twoCnfRule : ℕ → ℕ → Bool
+twoCnfRule positive negative = leb (onesIn 64 positive + onesIn 64 negative) 2
+
+-- ---- items one after the other
+
+-- k items, each of `size` bytes, from place p
+unfoldable pub items : {A : Type 0} → (ℕ → Result A) → ℕ → ℕ → ℕ → Result (List A)
+items read size p zero = found []
+items read size p (suc k) = do
+  x ← read p
+  xs ← items read size (p + size) k
+  found (x ∷ xs)
+
+-- the same, of numbers that must ascend strictly: 7 at the first that is below `low`, one more than the number before it
+unfoldable pub ascending : (ℕ → Result ℕ) → ℕ → ℕ → ℕ → ℕ → Result (List ℕ)
+ascending read size low p zero = found []
+ascending read size low p (suc k) = do
+  x ← read p
+  _ ← need (leb low x) 7 p
+  xs ← ascending read size (suc x) (p + size) k
+  found (x ∷ xs)
+
+-- ---- fields
+
+module _ (bytes : List ℕ) where
+  -- a number of k bytes
+  unfoldable pub field : ℕ → ℕ → Result ℕ
+  field k p = do
+    _ ← need (inside k bytes p) 3 p
+    found (number k bytes p)
+
+  -- a count from `low` to `high`
+  unfoldable pub count : ℕ → ℕ → ℕ → Result ℕ
+  count low high p = do
+    c ← field 2 p
+    _ ← need (leb low c && leb c high) 4 p
+    found c
+
+  -- a mask or state over n facts
+  unfoldable pub mask : ℕ → ℕ → Result ℕ
+  mask n p = do
+    m ← field 8 p
+    _ ← need (ltb m (2 ^ n)) 5 p
+    found m
+
+  -- an action or entry number below `bound`
+  unfoldable pub reference : ℕ → ℕ → Result ℕ
+  reference bound p = do
+    r ← field 2 p
+    _ ← need (ltb r bound) 6 p
+    found r
+
+  unfoldable pub action : ℕ → ℕ → Result Action
+  action n p = do
+    a ← mask n p
+    b ← mask n (p + 8)
+    c ← mask n (p + 16)
+    found (record { pre = a; add = b; del = c })
+
+  -- a clause whose masks pass the kind's rule
+  unfoldable pub clause : ℕ → (ℕ → ℕ → Bool) → ℕ → Result Clause
+  clause n rule p = do
+    a ← mask n p
+    b ← mask n (p + 8)
+    _ ← need (rule a b) 7 p
+    found (record { positive = a; negative = b })
+
+  -- a step is one item: 3 at its first byte
+  unfoldable pub step : ℕ → Result Step
+  step p = do
+    _ ← need (inside 12 bytes p) 3 p
+    found (record {
+      rule = number 1 bytes p;
+      kind = number 1 bytes (p + 1);
+      left = number 2 bytes (p + 2);
+      right = number 2 bytes (p + 4);
+      premises = number 2 bytes (p + 6) ∷ number 2 bytes (p + 8) ∷ number 2 bytes (p + 10) ∷ [];
+    })
+
+-- ---- entries
+
+-- a kind of entry: which lengths of a body fit it, and what a body at a place, of that length, holds
+pub record Kind (A : Type 0) : Type 0 where
+  pub fits : ℕ → Bool
+  pub body : ℕ → ℕ → Result A
+
+-- up to `most` items of `size` bytes each
+unfoldable pub upTo : ℕ → ℕ → ℕ → Bool
+upTo size most len = eqb (len % size) 0 && leb (len / size) most
+
+-- no body
+unfoldable pub plain : {A : Type 0} → A → Kind A
+plain a = record { fits = λ len. eqb len 0; body = λ p len. found a }
+
+module _ (bytes : List ℕ) where
+  -- one reference, or two, each below its bound
+  unfoldable pub one : {A : Type 0} → (ℕ → A) → ℕ → Kind A
+  one make bound = record {
+    fits = λ len. eqb len 2;
+    body = λ p len. do
+      a ← reference bytes bound p
+      found (make a);
+  }
+
+  unfoldable pub two : {A : Type 0} → (ℕ → ℕ → A) → ℕ → ℕ → Kind A
+  two make bound bound′ = record {
+    fits = λ len. eqb len 4;
+    body = λ p len. do
+      a ← reference bytes bound p
+      b ← reference bytes bound′ (p + 2)
+      found (make a b);
+  }
+
+  -- clauses of 16 bytes each, under the kind's rule
+  unfoldable pub clauses : ℕ → (ℕ → ℕ → Bool) → (List Clause → Basic) → Kind StateSet
+  clauses n rule make = record {
+    fits = upTo 16 256;
+    body = λ p len. do
+      cs ← items (clause bytes n rule) 16 p (len / 16)
+      found (basic (make cs));
+  }
+
+  -- the kinds of action set, 0 to 2, for entry i of a file with m actions
+  unfoldable pub actionKinds : ℕ → ℕ → List (Kind ActionSet)
+  actionKinds m i =
+      plain all
+      ∷ record {
+        fits = upTo 2 256;
+        body = λ p len. do
+          is ← ascending (reference bytes m) 2 0 p (len / 2)
+          found (listed is);
+      }
+      ∷ two either i i
+      ∷ []
+
+  -- the kinds of state set, 0 to 10, for entry i of a file with n facts and m action sets
+  unfoldable pub stateKinds : ℕ → ℕ → ℕ → List (Kind StateSet)
+  stateKinds n m i =
+      plain (basic empty)
+      ∷ plain (basic init)
+      ∷ plain (basic goal)
+      ∷ record {
+        fits = upTo 8 4096;
+        body = λ p len. do
+          ss ← ascending (mask bytes n) 8 0 p (len / 8)
+          found (basic (explicit ss));
+      }
+      ∷ clauses n hornRule horn
+      ∷ clauses n twoCnfRule twoCnf
+      ∷ one complement i
+      ∷ two intersection i i
+      ∷ two union i i
+      ∷ two progression i m
+      ∷ two regression i m
+      ∷ []
+
+  -- the entry at place p: whether it ends within the file, its kind, its length against the kind, its body
+  unfoldable pub entry : {A : Type 0} → List (Kind A) → ℕ → Result A
+  entry kinds p = do
+    len ← field bytes 2 p
+    _ ← need (inside (2 + len) bytes p) 3 p
+    _ ← need (leb 1 len) 4 p
+    k ← known (getElem? kinds (number 1 bytes (p + 2))) 4 (p + 2)
+    _ ← need (k .fits (len - 1)) 4 p
+    k .body (p + 3) (len - 1)
+
+  -- k entries from place p, the first of them entry i; and the place after them
+  unfoldable pub entries : {A : Type 0} → (ℕ → List (Kind A)) → ℕ → ℕ → ℕ → Result (List A × ℕ)
+  entries kinds i p zero = found ([], p)
+  entries kinds i p (suc k) = do
+    x ← entry (kinds i) p
+    r ← entries kinds (suc i) (p + 2 + number 2 bytes p) k
+    found (x ∷ r .0, r .1)
+
+  -- ---- the file
+
+  -- the fields from the version up to and with the actions, and the place after them
+  unfoldable pub readTask : Result (Task × ℕ)
+  readTask = do
+    v ← field bytes 1 4
+    _ ← need (eqb v 1) 2 4
+    n ← field bytes 1 5
+    _ ← need (leb 1 n && leb n 64) 4 5
+    s ← mask bytes n 6
+    g ← mask bytes n 14
+    m ← count bytes 0 256 22
+    acts ← items (action bytes n) 24 24 m
+    found (record { facts = n; init = s; goal = g; actions = acts }, 24 + 24 * m)
+
+  unfoldable pub readFile : Result File
+  readFile = do
+    _ ← need (leb 4 (length bytes) && leb (length bytes) 65536) 1 0
+    _ ← need (eqb (number 4 bytes 0 + 4) (length bytes)) 1 0
+    t ← readTask
+    ac ← count bytes 0 256 (t .1)
+    es ← entries (actionKinds (length (t .0 .actions))) 0 (t .1 + 2) ac
+    sc ← count bytes 0 512 (es .1)
+    ss ← entries (stateKinds (t .0 .facts) ac) 0 (es .1 + 2) sc
+    kc ← count bytes 1 2048 (ss .1)
+    ks ← items (step bytes) 12 (ss .1 + 2) kc
+    _ ← need (leb (length bytes) (ss .1 + 2 + 12 * kc)) 3 (ss .1 + 2 + 12 * kc)
+    found (record { task = t .0; actionSets = es .0; stateSets = ss .0; steps = ks })

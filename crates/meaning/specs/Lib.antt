@@ -1,0 +1,17 @@
+pub mod Result
+pub mod Bytes
+pub mod File
+pub mod Layout
+pub mod Writing
+pub mod Sets
+pub mod Shapes
+pub mod Statements
+pub mod Rules
+pub mod Truth
+pub mod Match
+pub mod Step
+pub mod Reply
+pub mod Question
+pub mod Cases
+pub mod Certain
+pub mod Points

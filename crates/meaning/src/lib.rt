@@ -1,0 +1,21 @@
+// What the checker means: the file, the sets it names, the rules, the replies, and the theorems about them.
+// The code here is the three types that the definitions share with the checker.
+
+// A clause: some positive fact is on, or some negative fact is off.
+pub struct Clause {
+    pub positive: u64,
+    pub negative: u64,
+}
+
+// The checker's reply: accepted, or document 01's refusal number and place.
+pub enum Reply {
+    Accepted,
+    Refused { number: u8, place: u32 },
+}
+
+// The answer to a question: in, out, or document 01's refusal number and place.
+pub enum Answer {
+    In,
+    Out,
+    Refused { number: u8, place: u32 },
+}

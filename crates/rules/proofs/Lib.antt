@@ -1,0 +1,6 @@
+pub mod Views
+pub mod RuleLaws
+pub mod DeadRules
+pub mod WithinRules
+pub mod Saying
+pub mod Dispatch

@@ -1,0 +1,33 @@
+-- `parts::bracket` meets its contract.
+-- Assumes nothing.
+use mathlib.Core.Path.{refl}
+use borrow.Author.Needs.{needs}
+use Rattle.certificate.proofs.KnownLaws.{known-ordered}
+use Rattle.shapes.proofs.NodeLaws.{node-first, node-second}
+use Rattle.shapes.proofs.PartLaws.{bracket-parts}
+use Rattle.shapes.proofs.parts.bracket.Statement.{statement}
+use Rattle.shapes.proofs.parts.bracket.Tie as tie
+
+returns : tie.Need-returns
+returns c =
+    let d = c .before .before .before .before in
+    let s = d .before .before .before .before .before .before .before .before in
+    let n = d .before .node-at .ensures in
+    bracket-parts _ (known-ordered _ _ _ (s .pre)) _ _ _ _ (d .before .before .before .before .before .before .tree .result)
+    (d .before .before .before .before .of-kind .result) _ (d .before .before .before .before .before .before .tree .ensures)
+    (d .before .before .before .before .of-kind .ensures) (d .before .before .before .of-kind2 .ensures) (node-first _ _ _ _ n) (d .tree3 .ensures)
+    (d .before .before .before .before .before .tree2 .ensures) (node-second _ _ _ _ n) refl
+
+pub bracket-spec : {M : Type 1} → statement M
+bracket-spec =
+    tie.close
+    (tie.spec
+    (λ c κs. search needs)
+    (λ c κs. search needs)
+    (λ c κs. search needs)
+    (λ c κs. search needs)
+    (λ c. search needs)
+    (λ c κs. search needs)
+    (λ c κs. search needs)
+    (λ c. search needs)
+    returns)

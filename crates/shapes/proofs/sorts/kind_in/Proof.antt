@@ -1,0 +1,41 @@
+-- `sorts::kind_in` meets its contract: what is found among the leaves passed so far.
+-- Assumes nothing.
+use mathlib.Core.Path.{_≡_}
+use Prim.Native.Nat.{_-_, _≤_}
+use native.Mathlib.Omega.{arith}
+use borrow.Author.Needs.{needs}
+use Rattle.shapes.specs.Decided.{kindIn}
+use Rattle.shapes.proofs.DecideLaws.{kind-none, kind-next, kind-end}
+use Rattle.shapes.proofs.sorts.kind_in.Statement.{statement}
+use Rattle.shapes.proofs.sorts.kind_in.Tie as tie
+
+abbrev Inv-loop : tie.InvT-loop
+Inv-loop xs n k found₀ j₀ found j = (j ≤ n) × (found ≡ kindIn xs j k)
+
+abbrev μ-loop : tie.MeasureT-loop
+μ-loop xs n k found₀ j₀ found j = n - j
+
+loop-holds : tie.Need-loop-holds Inv-loop μ-loop
+loop-holds c = (omega arith, kind-none _ _)
+
+loop-again : tie.Need-loop-again Inv-loop μ-loop
+loop-again c = (omega arith, kind-next _ _ _ _ (c .before .before .loop .inv .1))
+
+returns : tie.Need-returns Inv-loop μ-loop
+returns c = kind-end _ _ _ _ _ (c .before .loop .inv .0) (c .loop-test .left) (c .before .loop .inv .1)
+
+pub kind-in-spec : {M : Type 1} → statement M
+kind-in-spec =
+    tie.close
+    (tie.spec
+    Inv-loop
+    μ-loop
+    loop-holds
+    (λ c. search needs)
+    (λ c. search needs)
+    (λ c. search needs)
+    (λ c. search needs)
+    (λ c. search needs)
+    (λ c. search needs)
+    loop-again
+    returns)

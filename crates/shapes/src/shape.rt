@@ -1,0 +1,110 @@
+// The shapes of basic statements on state sets, rules 1 to 4: their leaves are gathered, and told whether they are permitted.
+use crate::arrays::put;
+use crate::parts::Parts;
+use crate::parts::literals;
+use crate::parts::parts_of;
+use crate::sorts::Counts;
+use crate::sorts::decide;
+use certificate::Places;
+ghost use mathlib.Core.Path.{_≡_};
+ghost use Prim.Native.Nat.{_≤_};
+ghost use mathlib.Core.Bool.{true, false};
+ghost use Rattle.certificate.specs.Known.{Known, decoded};
+ghost use Rattle.shapes.specs.Gathered.{shapeOf, Gathers};
+ghost use Rattle.shapes.specs.Decided.{SoundParts, sidesIn, Filled, Zeros};
+
+// What is known of a statement once its leaves stand in the two arrays.
+pub struct Gathered {
+    pub permitted: bool,
+    // Some leaf is explicit; else all are of clauses.
+    pub listed: bool,
+    // A left leaf is two-literal.
+    pub two: bool,
+    pub left_count: u32,
+    pub right_count: u32,
+    // The left leaf whose states are listed, where one is explicit.
+    pub anchor: u32,
+    // The action set of rules 2 and 3.
+    pub actions: u16,
+}
+
+// Writes the leaves, complements on the other side. On the right those of kind 0 are left out.
+fn fill(
+    file: &[u8],
+    at: Places,
+    index: &[u16; 768],
+    through: bool,
+    p: Parts,
+    left: &mut [u32; 96],
+    right: &mut [u32; 64],
+) -> Counts
+    requires { ⌜ Known (now file) at (now index) ⌝ }
+    requires { ⌜ SoundParts p ⌝ }
+    ensures { λ r. ⌜ Filled (decoded (now (file .entry))) (now (index .entry)) through (sidesIn p) (now (left .entry)) (now (left .exit)) (now (right .entry)) (now (right .exit)) r ⌝ }
+{
+    let own = put(file, at, index, p.outer, false, true, through, left, 0);
+    let outside = put(file, at, index, p.right, true, true, through, left, own);
+    let all = put(
+        file,
+        at,
+        index,
+        p.inner,
+        false,
+        true,
+        !through,
+        left,
+        outside,
+    );
+    let some = put(file, at, index, p.right, false, false, through, right, 0);
+    let others = put(file, at, index, p.outer, true, false, through, right, some);
+    Counts {
+        outside,
+        left: all,
+        right: others,
+    }
+}
+
+// A shape that is not permitted.
+fn refused() -> Gathered
+    ensures { λ r. ⌜ r .permitted ≡ false ⌝ }
+{
+    Gathered {
+        permitted: false,
+        listed: false,
+        two: false,
+        left_count: 0,
+        right_count: 0,
+        anchor: 0,
+        actions: 0,
+    }
+}
+
+// Gathers the leaves of a statement by rule 1 to 4 into two arrays, and tells whether its shape is permitted.
+pub fn gather(
+    file: &[u8],
+    at: Places,
+    index: &[u16; 768],
+    rule: u8,
+    a: u16,
+    b: u16,
+    left: &mut [u32; 96],
+    right: &mut [u32; 64],
+) -> Gathered
+    requires { ⌜ Known (now file) at (now index) ⌝ }
+    requires { ⌜ (1 ≤ rule) × (rule ≤ 4) ⌝ }
+    requires { ⌜ Zeros (now right) ⌝ }
+    ensures shape { λ r. ⌜ r .permitted ≡ shapeOf (decoded (now (file .entry))) rule a b ⌝ }
+    ensures leaves { λ r. ⌜ (r .permitted ≡ true → Gathers (decoded (now (file .entry))) (now (index .entry)) rule a b (now (left .exit)) (now (right .exit)) r) ⌝ }
+{
+    let p = parts_of(file, at, index, rule, a, b);
+    if p.ok {
+        if literals(file, at, index, p) {
+            let n = fill(file, at, index, rule == 2, p, left, right);
+            decide(rule, left, right, n, p.actions)
+        } else {
+            refused()
+        }
+    } else {
+        refused()
+    }
+}
