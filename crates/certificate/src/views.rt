@@ -1,6 +1,5 @@
 // A file's entries, steps and actions as values, and the table of the entries' places.
 use crate::ActionEntry;
-use meaning::Clause;
 use crate::Judgement;
 use crate::Places;
 use crate::Span;
@@ -9,6 +8,7 @@ use crate::Step;
 use crate::bytes::byte_at;
 use crate::bytes::u16_at;
 use crate::bytes::u64_at;
+use meaning::Clause;
 use task::Action;
 ghost use mathlib.Core.Path.{_≡_};
 ghost use Prim.Native.Nat.{_+_, _-_, _*_};

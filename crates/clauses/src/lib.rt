@@ -1,7 +1,7 @@
 // Clause statements for one action: the search for a state in which it applies, that meets every left clause and fails a
 // clause of each right leaf. Clauses are read from the file whenever they are looked at; none is kept.
-use meaning::Clause;
 use certificate::bytes::u64_at;
+use meaning::Clause;
 use task::Action;
 ghost use mathlib.Core.Path.{_≡_};
 ghost use mathlib.Core.Bool.{true, false};

@@ -1,11 +1,11 @@
 // The check of one step: replies 8 to 11.
-use rules::rule::Rule;
 use crate::step::derived;
 use crate::step::well_formed;
 use certificate::Places;
 use certificate::known::fields;
 use inclusion::Verdict;
 use inclusion::decide::decide;
+use rules::rule::Rule;
 ghost use mathlib.Core.Path.{_≡_};
 ghost use Prim.Native.Nat.{_<_};
 ghost use Rattle.meaning.specs.File.{stepAt};

@@ -1,12 +1,12 @@
 // One step: whether it is well formed, reply 8, and whether it is derived by its rule, reply 9.
-use rules::dead;
-use rules::rule::Rule;
-use rules::within;
 use certificate::Judgement;
 use certificate::Places;
 use certificate::known::fields;
 use certificate::views::judgement_of;
 use certificate::views::step_of;
+use rules::dead;
+use rules::rule::Rule;
+use rules::within;
 ghost use mathlib.Core.Path.{_≡_};
 ghost use Prim.Native.Nat.{_<_};
 ghost use mathlib.Core.Bool.{true, _&&_};

@@ -2,13 +2,13 @@
 use crate::Verdict;
 use crate::actions::action_marks;
 use crate::actions::actions_within;
-use clauses::refuted;
 use crate::listed::shown;
 use crate::marks::is_marked;
-use shapes::shape::Gathered;
-use shapes::shape::gather;
 use certificate::Places;
 use certificate::known::action;
+use clauses::refuted;
+use shapes::shape::Gathered;
+use shapes::shape::gather;
 use task::Action;
 ghost use mathlib.Core.Path.{_≡_};
 ghost use mathlib.Core.Logic.{_↔_};

@@ -1,4 +1,5 @@
--- Replies and answers as one number. Document 01's refusal numbers start at 1, so no refusal's code is 0 or 1.
+-- Replies and answers as one number. Document 01's refusal numbers start at 1, so no refusal's code is 0 or 1
+-- (proofs/CodeLaws.antt).
 -- Assumes nothing.
 use Prim.Native.Nat.{ℕ, _+_, _*_}
 use Rattle.meaning.specs.declared.Reply.{Reply}

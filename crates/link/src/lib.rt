@@ -4,6 +4,11 @@ use meaning::Reply;
 use verifier::ask::ask;
 use verifier::check;
 ghost use mathlib.Core.Path.{_≡_};
+ghost use Rattle.task.specs.Reach.{Safe};
+ghost use Rattle.meaning.specs.Result.{found};
+ghost use Rattle.meaning.specs.File.{File};
+ghost use Rattle.meaning.specs.Layout.{readFile};
+ghost use Rattle.meaning.specs.declared.Answer.the-variants.{In, Out};
 ghost use Rattle.meaning.specs.Reply.{replyOf};
 ghost use Rattle.meaning.specs.Question.{answerOf};
 ghost use Rattle.link.specs.Code.{refusalCode, codeOf, answerCodeOf};
@@ -19,6 +24,7 @@ fn refusal_code(number: u8, place: u32) -> u64
 #[no_mangle]
 pub extern "C" fn certificate_check(file: &[u8]) -> u64
     ensures code { λ r. ⌜ r ≡ codeOf (replyOf (now (file .entry))) ⌝ }
+    ensures safe { λ r. ⌜ (r ≡ 0 → (f : File) × (readFile (now (file .entry)) ≡ found f) × Safe (f .task)) ⌝ }
     ensures untouched { λ r. ⌜ now (file .exit) ≡ now (file .entry) ⌝ }
 {
     match check(file) {
@@ -31,6 +37,7 @@ pub extern "C" fn certificate_check(file: &[u8]) -> u64
 #[no_mangle]
 pub extern "C" fn certificate_ask(file: &[u8], entry: u64, state: u64) -> u64
     ensures code { λ r. ⌜ r ≡ answerCodeOf (answerOf (now (file .entry)) entry state) ⌝ }
+    ensures told { λ r. ⌜ (r ≡ 1 → answerOf (now (file .entry)) entry state ≡ In) × (r ≡ 0 → answerOf (now (file .entry)) entry state ≡ Out) ⌝ }
     ensures untouched { λ r. ⌜ now (file .exit) ≡ now (file .entry) ⌝ }
 {
     match ask(file, entry, state) {

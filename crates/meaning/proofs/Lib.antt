@@ -25,3 +25,4 @@ pub mod Points
 pub mod Judgements
 pub mod Certain
 pub mod Shallow
+pub mod Refusals

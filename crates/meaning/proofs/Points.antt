@@ -6,11 +6,12 @@ use Rattle.meaning.specs.Writing.{each, writeEntry, actionBody, basicBod
 use Rattle.meaning.proofs.Written.{reads-back}
 use Rattle.meaning.proofs.RulesSound.{rules-sound}
 use Rattle.meaning.specs.Certain.{certificateOf}
-use Rattle.meaning.specs.Points.{SampleLength, TwelveCases, RulesSound, JudgementsTrue, AcceptedIsSafe, SafeIsAccepted, CertainCertificate, SampleForm, ReadsBack, Shortcut}
+use Rattle.meaning.specs.Points.{SampleLength, TwelveCases, RulesSound, JudgementsTrue, AcceptedIsSafe, SafeIsAccepted, CertainCertificate, SampleForm, ReadsBack, Shortcut, RefusalNumbers, AnswerNumbers}
 use Rattle.meaning.proofs.Computed.{computed}
 use Rattle.meaning.proofs.Judgements.{judgements-true, accepted-is-safe}
 use Rattle.meaning.proofs.Certain.{certain-certificate, safe-is-accepted}
 use Rattle.meaning.proofs.Shallow.{shortcut}
+use Rattle.meaning.proofs.Refusals.{refusal-numbers, answer-numbers}
 
 pub the-sample-has-234-bytes : SampleLength
 unfolding computed
@@ -44,3 +45,9 @@ what-was-written-is-read-back = reads-back
 
 pub a-question-takes-one-walk : Shortcut
 a-question-takes-one-walk = shortcut
+
+pub a-refused-file-has-a-number-to-12 : RefusalNumbers
+a-refused-file-has-a-number-to-12 = refusal-numbers
+
+pub a-refused-question-has-its-number : AnswerNumbers
+a-refused-question-has-its-number = answer-numbers

@@ -1,7 +1,7 @@
 -- What is proved of the definitions: the page to read first. Each statement is proved in one line in proofs/Points.antt.
 -- Assumes nothing.
 use mathlib.Core.Path.{_≡_}
-use mathlib.Core.Logic.{_↔_}
+use mathlib.Core.Logic.{_↔_, _⊎_}
 use mathlib.Core.Bool.{Bool, not, _&&_}
 use Prim.Native.Nat.{ℕ, zero, suc, _≤_, _<_}
 use mathlib.Core.List.{List, [], _∷_, map}
@@ -19,9 +19,10 @@ use Rattle.meaning.specs.Sets.{inSet, statesWithin, actionsWithin}
 use Rattle.meaning.specs.Rules.{rules}
 use Rattle.meaning.specs.Truth.{SoundRules}
 use Rattle.meaning.specs.declared.Reply.{Reply}
-use Rattle.meaning.specs.declared.Reply.the-variants.{Accepted}
+use Rattle.meaning.specs.declared.Reply.the-variants.{Accepted, Refused}
+use Rattle.meaning.specs.declared.Answer.the-variants as answer
 use Rattle.meaning.specs.Reply.{checkSteps, replyOf}
-use Rattle.meaning.specs.Question.{depth, hasProgression, shallow}
+use Rattle.meaning.specs.Question.{depth, hasProgression, shallow, answerOf}
 use Rattle.meaning.specs.Cases.{Case, cases, sample}
 use Rattle.meaning.specs.Certain.{certificateOf}
 
@@ -79,3 +80,10 @@ abbrev pub Shortcut : Type 0
 Shortcut =
     (bytes : List ℕ) (f : File) → readFile bytes ≡ found f
     → (e : ℕ) → not (hasProgression f e) && leb (depth f e) 4 ≡ shallow f e 4
+
+-- Document 01's numbers: a refusal of a file is 1 to 12, and of a question 1 to 7 or 13.
+abbrev pub RefusalNumbers : Type 0
+RefusalNumbers = (bytes : List ℕ) (r p : ℕ) → replyOf bytes ≡ Refused r p → (1 ≤ r) × (r ≤ 12)
+
+abbrev pub AnswerNumbers : Type 0
+AnswerNumbers = (bytes : List ℕ) (e s r p : ℕ) → answerOf bytes e s ≡ answer.Refused r p → ((1 ≤ r) × (r ≤ 7)) ⊎ (r ≡ 13)

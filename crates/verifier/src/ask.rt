@@ -1,5 +1,4 @@
 // The question whether a state is in an entry's set.
-use meaning::Answer;
 use certificate::Outline;
 use certificate::Places;
 use certificate::StateEntry;
@@ -10,6 +9,7 @@ use certificate::views::index_file;
 use inclusion::actions::action_marks;
 use inclusion::listed::leaf_holds;
 use inclusion::marks::is_marked;
+use meaning::Answer;
 use task::after;
 use task::applies;
 ghost use mathlib.Core.Path.{_≡_};

@@ -3,18 +3,22 @@
 use mathlib.Core.Path.{ap, sym, _∙_, refl}
 use borrow.Author.Needs.{needs}
 use Rattle.link.specs.Code.{codeOf}
+use Rattle.link.proofs.CodeLaws.{safe-by-code}
 use Rattle.link.proofs.certificate_check.Statement.{statement}
 use Rattle.link.proofs.certificate_check.Tie as tie
 
 returns : tie.Need-returns
 unfolding codeOf
-returns c = (ap codeOf (sym (c .enum-told .given .1) ∙ c .before .before .check .ensures .0), refl)
+returns c =
+    let e = ap codeOf (sym (c .enum-told .given .1) ∙ c .before .before .check .ensures .0) in
+    (e, (safe-by-code _ e, refl))
 
 returns-2 : tie.Need-returns-2
 unfolding codeOf
 returns-2 c =
     let a = c .before .before in
-    (c .refusal-code .ensures ∙ ap codeOf (sym (a .number .given .1) ∙ a .before .before .check .ensures .0), refl)
+    let e = c .refusal-code .ensures ∙ ap codeOf (sym (a .number .given .1) ∙ a .before .before .check .ensures .0) in
+    (e, (safe-by-code _ e, refl))
 
 pub certificate-check-spec : {M : Type 1} → statement M
 certificate-check-spec =

@@ -1,0 +1,54 @@
+-- What a code tells: 0 is accepted or out, 1 is in, and every refusal has a greater one.
+-- Assumes nothing.
+use mathlib.Core.Path.{_≡_, refl, sym, _∙_}
+use Prim.Native.Nat.{ℕ, _+_, _*_, _≤_, _<_}
+use native.Mathlib.Omega.{arith}
+use mathlib.Core.Logic.{_⊎_, inl, inr}
+use mathlib.Core.List.{List}
+use Rattle.task.specs.Reach.{Safe}
+use Rattle.meaning.specs.Result.{found}
+use Rattle.meaning.specs.File.{File}
+use Rattle.meaning.specs.Layout.{readFile}
+use Rattle.meaning.specs.declared.Reply.{Reply}
+use Rattle.meaning.specs.declared.Reply.the-variants.{Accepted, Refused}
+use Rattle.meaning.specs.declared.Answer.{Answer}
+use Rattle.meaning.specs.declared.Answer.the-variants as answer
+use Rattle.meaning.specs.Reply.{replyOf}
+use Rattle.meaning.specs.Question.{answerOf}
+use Rattle.meaning.proofs.Points.{an-accepted-file-is-safe, a-refused-file-has-a-number-to-12, a-refused-question-has-its-number}
+use Rattle.link.specs.Code.{refusalCode, codeOf, answerCodeOf}
+
+refusal-above : (r p : ℕ) → 1 ≤ r → 1 < refusalCode r p
+unfolding refusalCode
+refusal-above r p h = omega (arith, h)
+
+accepted : (x : Reply) → ((r p : ℕ) → x ≡ Refused r p → 1 ≤ r) → codeOf x ≡ 0 → x ≡ Accepted
+unfolding codeOf
+accepted Accepted h e = refl
+accepted (Refused r p) h e = absurd (omega (arith, e, refusal-above r p (h r p refl)))
+
+pub safe-by-code : (bytes : List ℕ) {c : ℕ} → c ≡ codeOf (replyOf bytes) → c ≡ 0 → (f : File) × (readFile bytes ≡ found f) × Safe (f .task)
+safe-by-code bytes e z =
+    an-accepted-file-is-safe bytes (accepted (replyOf bytes) (λ r p q. a-refused-file-has-a-number-to-12 bytes r p q .0) (sym e ∙ z))
+
+least : {r : ℕ} → ((1 ≤ r) × (r ≤ 7)) ⊎ (r ≡ 13) → 1 ≤ r
+least (inl h) = h .0
+least (inr e) = omega (arith, e)
+
+told-in : (x : Answer) → ((r p : ℕ) → x ≡ answer.Refused r p → 1 ≤ r) → answerCodeOf x ≡ 1 → x ≡ answer.In
+unfolding answerCodeOf
+told-in answer.In h e = refl
+told-in answer.Out h e = absurd (omega (arith, e))
+told-in (answer.Refused r p) h e = absurd (omega (arith, e, refusal-above r p (h r p refl)))
+
+told-out : (x : Answer) → ((r p : ℕ) → x ≡ answer.Refused r p → 1 ≤ r) → answerCodeOf x ≡ 0 → x ≡ answer.Out
+unfolding answerCodeOf
+told-out answer.In h e = absurd (omega (arith, e))
+told-out answer.Out h e = refl
+told-out (answer.Refused r p) h e = absurd (omega (arith, e, refusal-above r p (h r p refl)))
+
+pub told : (bytes : List ℕ) (e s : ℕ) {c : ℕ} → c ≡ answerCodeOf (answerOf bytes e s)
+    → (c ≡ 1 → answerOf bytes e s ≡ answer.In) × (c ≡ 0 → answerOf bytes e s ≡ answer.Out)
+told bytes e s q =
+    let h : (r p : ℕ) → answerOf bytes e s ≡ answer.Refused r p → 1 ≤ r = λ r p w. least (a-refused-question-has-its-number bytes e s r p w) in
+    ((λ z. told-in (answerOf bytes e s) h (sym q ∙ z)), (λ z. told-out (answerOf bytes e s) h (sym q ∙ z)))
