@@ -33,7 +33,7 @@ fn u32_in(file: &[u8], at: usize) -> u32
     four(file[at], file[at + 1], file[at + 2], file[at + 3])
 }
 
-fn u64_in(file: &[u8], at: usize) -> u64
+pub fn u64_in(file: &[u8], at: usize) -> u64
     requires { ⌜ at + 8 ≤ length (now file) ⌝ }
     ensures { λ r. ⌜ r ≡ number 8 (now (file .entry)) at ⌝ }
 {

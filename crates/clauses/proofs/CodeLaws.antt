@@ -1,23 +1,24 @@
 -- The code's tests on kinds and masks, as what the definitions say.
 -- Assumes nothing.
-use Prim.Native.Nat.{ℕ, zero, suc, _*_, _/_, _%_, _≤_, _<_, _^_}
-use mathlib.Core.Path.{_≡_, refl, ap, _∙_}
-use mathlib.Core.Bool.{true, false, not, _||_}
+use Prim.Native.Nat.{ℕ, zero, suc, _+_, _*_, _/_, _%_, _≤_, _<_, _^_}
+use mathlib.Core.Path.{_≡_, refl, ap, ap₂, _∙_}
+use mathlib.Core.Bool.{Bool, true, false, not, _&&_, _||_}
 use mathlib.Core.List.{List}
 use native.Mathlib.Omega.{arith}
 use native.Mathlib.Nat.{mod-eq-of-lt}
 use lib.Pow.{pow-lt}
 use lib.Bits.{bitAnd}
-use lib.Dec.{eqb}
+use lib.Dec.{T, eqb, eqb→eq}
+use lib.ListN.{getD}
 use borrow.Author.Tests.{eq-eqb, ne-eqb}
 use Rattle.task.specs.declared.Action.{Action}
 use Rattle.task.specs.Facts.{without}
+use Rattle.task.proofs.Tests.{holds, and-left, and-right}
 use Rattle.meaning.specs.declared.Clause.{Clause}
-use Rattle.task.specs.Inner.{has}
+use Rattle.task.specs.Inner.{has, noAction}
 use Rattle.clauses.specs.Clauses.{sameAs, onIn, clauseAt, clauseCount, metBy, pulled}
-use Rattle.task.specs.Inner.{noAction}
 use Rattle.clauses.specs.declared.Effect.{Effect}
-use Rattle.clauses.specs.Propagation.{wordsAt, effectOf, pulledBy}
+use Rattle.clauses.specs.Propagation.{wordsAt, effectOf, pulledBy, Before}
 
 -- ---- one fact
 
@@ -91,3 +92,25 @@ module _ (k : Effect) (c : Clause) where
   pub code-rest : (not (eqb (bitAnd (c .positive) (k .add)) 0) || not (eqb (bitAnd (c .negative) (k .gone)) 0)) ≡ false → {p n : ℕ} → p ≡ without (c .positive) (k .changed) → n ≡ without (c .negative) (k .changed) → record { positive = p; negative = n } ≡ pulledBy k c
   unfolding pulledBy
   code-rest t u v = rw (u, v, t, pulledBy)
+
+-- ---- tests that several words pass
+
+pub same-clause : (c d : Clause) → T (eqb (c .positive) (d .positive) && eqb (c .negative) (d .negative)) → c ≡ d
+same-clause c d t =
+    let b = eqb (c .positive) (d .positive) in
+    let b′ = eqb (c .negative) (d .negative) in
+    ap₂ (λ (p n : ℕ). record { positive = p; negative = n }) (eqb→eq (c .positive) (d .positive) (and-left b b′ t)) (eqb→eq (c .negative) (d .negative) (and-right b b′ t))
+
+four : (a b c d : Bool) → T (((a && b) && c) && not d) → T a × T b × T c × (d ≡ false)
+four true true true true t = absurd t
+four true true true false t = (tt, tt, tt, refl)
+four true true false d t = absurd t
+four true false c d t = absurd t
+four false b c d t = absurd t
+
+pub before-at : (leaves : List ℕ) (m kind at count j : ℕ) → j < m
+    → (((eqb (getD leaves (4 * j) 0) kind && eqb (getD leaves (4 * j + 1) 0) at) && eqb (getD leaves (4 * j + 2) 0) count) && not (eqb (getD leaves (4 * j + 3) 0) 1)) ≡ true
+    → Before leaves m kind at count
+before-at leaves m kind at count j l e =
+    let t = four (eqb (getD leaves (4 * j) 0) kind) (eqb (getD leaves (4 * j + 1) 0) at) (eqb (getD leaves (4 * j + 2) 0) count) (eqb (getD leaves (4 * j + 3) 0) 1) (holds e) in
+    (j, l, eqb→eq (getD leaves (4 * j) 0) kind (t .0), eqb→eq (getD leaves (4 * j + 1) 0) at (t .1), eqb→eq (getD leaves (4 * j + 2) 0) count (t .2), t .3)

@@ -1,15 +1,15 @@
 -- The clauses of a leaf, by its kind, place and count and the action that they are pulled through.
 -- Assumes nothing.
 use Prim.Native.Nat.{ℕ, _+_, _*_, _≤_, _<_}
-use mathlib.Core.Path.{_≡_, sym, ap, subst, _∙_}
+use mathlib.Core.Path.{_≡_, refl, sym, ap, subst, _∙_}
 use mathlib.Core.List.{List}
 use lib.ListN.{getD}
 use lib.Dec.{eqb}
 use Rattle.task.specs.declared.Action.{Action}
 use Rattle.meaning.specs.declared.Clause.{Clause}
 use Rattle.clauses.specs.declared.Assignment.{Assignment}
-use Rattle.clauses.specs.Clauses.{clauseAt, clauseCount, leafClause, leafCount, OfLeaf}
-use Rattle.clauses.specs.Propagation.{acting, effectOf, pulledBy, Below, ofWords, ofKind, Passed}
+use Rattle.clauses.specs.Clauses.{clauseAt, clauseCount, overOld, leafClause, leafCount, OfLeaf, OfLeaves}
+use Rattle.clauses.specs.Propagation.{acting, effectOf, pulledBy, Below, ofWords, ofKind, Passed, Before}
 use Rattle.clauses.proofs.ClauseLaws.{over-old}
 use Rattle.clauses.proofs.CodeLaws.{count-words, at-words, pulled-by}
 use Rattle.clauses.proofs.PassLaws.{passed-as}
@@ -53,3 +53,10 @@ module _ (bytes : List ℕ) (init goal : ℕ) (a : Action) (leaves : List ℕ) (
       (λ c p. (p .0, subst (λ (k : ℕ). p .0 < k) (sym (count-words kindOf countOf l)) (p .1), p .2 ∙ ap (pulledBy (effectOf actionOf)) (sym (at-words bytes init goal kindOf placeOf (p .0) l))))
       (λ c p. (p .0, subst (λ (k : ℕ). p .0 < k) (count-words kindOf countOf l) (p .1), p .2 ∙ ap (pulledBy (effectOf actionOf)) (at-words bytes init goal kindOf placeOf (p .0) l)))
       u)
+
+-- a clause of a left leaf that is asked about the state before the action is a left clause as it stands
+pub before-left : (bytes : List ℕ) (init goal : ℕ) (a : Action) (leaves : List ℕ) (m kind at count i : ℕ)
+    → Before leaves m kind at count → i < clauseCount kind count → OfLeaves bytes init goal a leaves m (clauseAt bytes init goal kind at i)
+unfolding leafCount leafClause overOld
+before-left bytes init goal a leaves m kind at count i (j, l, k, p, n, off) h =
+    (j, l, (i, rw (k, n) h, rw (off, k, p) refl))

@@ -10,13 +10,13 @@ use native.Mathlib.Nat.{le-refl}
 use lib.Bits.{bitOr}
 use lib.Dec.{T}
 use Rattle.task.specs.declared.Action.{Action}
-use Rattle.task.proofs.Tests.{not-of, is-true}
-use Rattle.task.proofs.Bits.{bit, bit-none, bit-or}
+use Rattle.task.proofs.Tests.{not-of, is-true, never}
+use Rattle.task.proofs.Bits.{bit, bit-le, bit-none, bit-or}
 use Rattle.meaning.specs.declared.Clause.{Clause}
 use Rattle.clauses.specs.declared.Assignment.{Assignment}
 use Rattle.meaning.specs.Sets.{meets}
 use Rattle.clauses.specs.Clauses.{OfLeaves}
-use Rattle.clauses.specs.Propagation.{value, Apart, Meets, Fails, Settled, Tells, Going, Assumed, Decided, Fillable, Ready, Model, Witness, Usable}
+use Rattle.clauses.specs.Propagation.{value, failing, Apart, Meets, Fails, Settled, Tells, Going, Assumed, Decided, Fillable, Ready, Model, Witness, Candidate, Sought, Usable}
 use Rattle.clauses.proofs.OneFact.{bit-same, bit-only}
 use Rattle.clauses.proofs.ClauseLaws.{Has, met-by}
 use Rattle.clauses.proofs.CodeLaws.{count-words, pulled-by}
@@ -38,15 +38,8 @@ usable-shaped bytes init goal a leaves m two u c p =
 
 -- ---- a test that is known
 
-pub tells-yes : {X : Type 0} → X → Tells true X
-tells-yes x = record { finds = λ t. x; sees = λ y. tt }
-
 pub tells-no : {X : Type 0} → (X → ⊥) → Tells false X
 tells-no n = record { finds = λ t. absurd t; sees = λ y. n y }
-
--- where the test fails there is none
-pub tells-not : {X : Type 0} {r : Bool} → Tells r X → r ≡ false → X → ⊥
-tells-not {X} {r} k e x = true≢false (sym (is-true r (k .sees x)) ∙ e)
 
 -- ---- one fact
 
@@ -144,22 +137,55 @@ module _ (P : Clause → Type 0) (Q : ℕ → Clause → Type 0) where
   pub witness-calm : {j : ℕ} {x : Assignment} → x .conflict ≡ true → Witness P Q j x → ⊥
   witness-calm t w = true≢false (sym t ∙ w .agrees .calm)
 
-  pub witness-base : {j : ℕ} {x : Assignment} → j ≡ 2 → Fillable P → Ready P x → x .on < 2 ^ 64 → x .conflict ≡ false → Witness P Q j x
-  witness-base {j} {x} e fill r fits z =
-      let q = fill x fits z (r .apart z) (r .settled z) in
-      record { state = q .0; agrees = q .1; meets-left = q .2; fails = λ k l h. absurd (omega arith) }
-
-  pub witness-found : {j : ℕ} {c : Clause} {x y : Assignment} → Q j c → Assumed P c x y → Witness P Q (j + 1) y → Witness P Q j x
-  witness-found {j} {c} {x} {y} q u w =
+  -- where no right leaf is left, x itself will do
+  pub candidate-base : {j : ℕ} {x : Assignment} → j ≡ 2 → Ready P x → x .on < 2 ^ 64 → x .conflict ≡ false → Candidate P Q j x
+  candidate-base {j} {x} e r fits z =
       record {
-        state = w .state;
-        agrees = agrees-before (λ s. Meets P s × T (not (meets s c))) x y (w .state) (u .goes) (w .agrees);
-        meets-left = w .meets-left;
+        grown = x;
+        goes = going-none _ x;
+        fits = fits;
+        calm = z;
+        apart = r .apart z;
+        settled = r .settled z;
+        fails = λ k l h. absurd (omega arith);
+      }
+
+  pub candidate-found : {j : ℕ} {c : Clause} {x y : Assignment} → Q j c → Assumed P c x y → Candidate P Q (j + 1) y → Candidate P Q j x
+  candidate-found {j} {c} {x} {y} q u w =
+      record {
+        grown = w .grown;
+        goes = going-more (λ s p. absurd p) (u .goes) (w .goes);
+        fits = w .fits;
+        calm = w .calm;
+        apart = w .apart;
+        settled = w .settled;
         fails = λ k l h. elim (decLt j k) [
           | yes i ↦ w .fails k (omega arith) h
-          | no i ↦ let e : j ≡ k = omega arith in subst (λ (k : ℕ). Fails (Q k) (w .state)) e (c, q, against c y (u .told) (w .state) (w .agrees))
+          | no i ↦
+              let e : j ≡ k = omega arith in
+              (c, subst (λ (k : ℕ). Q k c) e q, (λ b f t. omega (arith, u .told b f t, w .goes .grows (not b) f, bit-le f (failing b (w .grown)))))
         ];
       }
+
+  -- a candidate that can be filled up gives a witness
+  pub candidate-fills : {j : ℕ} {x : Assignment} → Fillable P → Candidate P Q j x → Witness P Q j x
+  candidate-fills {j} {x} fill w =
+      let q = fill (w .grown) (w .fits) (w .calm) (w .apart) (w .settled) in
+      record {
+        state = q .0;
+        agrees = agrees-before (λ s. ⊥) x (w .grown) (q .0) (w .goes) (q .1);
+        meets-left = q .2;
+        fails = λ k l h. let r = w .fails k l h in (r .0, r .1, against (r .0) (w .grown) (r .2) (q .0) (q .1));
+      }
+
+  pub sought-yes : {j : ℕ} {x : Assignment} → Candidate P Q j x → Sought true P Q j x
+  sought-yes w = record { finds = λ t. w; sees = λ y. tt }
+
+  pub sought-no : {j : ℕ} {x : Assignment} → (Witness P Q j x → ⊥) → Sought false P Q j x
+  sought-no n = record { finds = λ t. absurd t; sees = λ y. n y }
+
+  pub sought-not : {j : ℕ} {x : Assignment} {r : Bool} → Sought r P Q j x → r ≡ false → Witness P Q j x → ⊥
+  sought-not {j} {x} {r} k e w = true≢false (sym (is-true r (k .sees w)) ∙ e)
 
   -- no witness fails one of the first i clauses
   abbrev pub Missing : (ℕ → Clause) → ℕ → ℕ → Assignment → Type 0
@@ -177,6 +203,16 @@ module _ (P : Clause → Type 0) (Q : ℕ → Clause → Type 0) where
               meets-left = w .meets-left;
               fails = w .fails;
             })
+      ]
+
+  -- a clause that every witness meets
+  pub missing-met : (at : ℕ → Clause) (i j : ℕ) {x : Assignment} → Missing at i j x → P (at i) → Missing at (i + 1) j x
+  missing-met at i j {x} h p w k l t =
+      elim (decLt k i) [
+        | yes q ↦ h w k q t
+        | no q ↦
+            let e : i ≡ k = omega arith in
+            never (meets (w .state) (at k)) (w .meets-left (at k) (subst (λ (k : ℕ). P (at k)) e p)) t
       ]
 
   pub missing-all : (at : ℕ → Clause) (i j : ℕ) {x : Assignment} → j < 2 → ((c : Clause) → Q j c → (k : ℕ) × (k < i) × (c ≡ at k)) → Missing at i j x → Witness P Q j x → ⊥

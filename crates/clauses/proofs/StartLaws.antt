@@ -17,10 +17,10 @@ use Rattle.meaning.specs.declared.Clause.{Clause}
 use Rattle.clauses.specs.declared.Assignment.{Assignment}
 use Rattle.meaning.specs.Sets.{meets}
 use Rattle.clauses.specs.Clauses.{OfLeaves, Refutes}
-use Rattle.clauses.specs.Propagation.{holding, value, Agrees, Meets, Fails, Tells, Solved, Opposed, Ready, Model, Worth, Witness, Usable}
+use Rattle.clauses.specs.Propagation.{holding, value, Agrees, Meets, Fails, Tells, Solved, Opposed, Ready, Model, Worth, Witness, Sought, Usable}
 use Rattle.clauses.proofs.ClauseLaws.{Has, met-by, fails-by}
 use Rattle.clauses.proofs.AssumeLaws.{against, agrees-before}
-use Rattle.clauses.proofs.SeekLaws.{tells-no, usable-shaped}
+use Rattle.clauses.proofs.SeekLaws.{tells-no, usable-shaped, candidate-fills, sought-not}
 use Rattle.clauses.proofs.FillLaws.{horn-fillable, two-fillable}
 
 -- ---- the facts from n on
@@ -127,12 +127,17 @@ module _ (P : Clause → Type 0) (n : ℕ) (hn : n ≤ 64) (a : Action) (x y : A
         each (suc zero) l = (r .failed₂, r .of₂, r .fails₂)
         each (suc (suc k)) l = absurd (omega arith)
 
-    pub tells-found : {t : Bool} → Tells t (Witness P Q 0 y) → Tells t (Refutes n a P (Q 0) (Q 1))
-    tells-found k = record { finds = λ t. to-refutes (k .finds t); sees = λ r. k .sees (of-refutes r) }
+    -- a candidate was found, and it is known whether it can be filled up
+    pub tells-worth : {t r : Bool} → Sought t P Q 0 y → T t → Worth P y r → Tells r (Refutes n a P (Q 0) (Q 1))
+    tells-worth k e w =
+        record {
+          finds = λ t. to-refutes (candidate-fills P Q (w .fills t) (k .finds e));
+          sees = λ r. let v = of-refutes r in w .sees (v .state, v .agrees, v .meets-left);
+        }
 
-    -- leaves that no state meets
-    pub tells-none : {t : Bool} → Worth P y t → t ≡ false → Tells false (Refutes n a P (Q 0) (Q 1))
-    tells-none {t} k e = tells-no (λ r. let w = of-refutes r in true≢false (sym (is-true t (k .sees (w .state, w .agrees, w .meets-left))) ∙ e))
+    -- none was found
+    pub tells-none : {t : Bool} → Sought t P Q 0 y → t ≡ false → Tells false (Refutes n a P (Q 0) (Q 1))
+    tells-none k e = tells-no (λ r. sought-not P Q k e (of-refutes r))
 
 -- ---- whether it is worth while
 

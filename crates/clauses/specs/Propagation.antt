@@ -188,6 +188,21 @@ pub record Witness (P : Clause → Type 0) (Q : ℕ → Clause → Type 0) (j : 
   pub meets-left : Meets P state
   pub fails : (k : ℕ) → j ≤ k → k < 2 → Fails (Q k) state
 
+-- an assignment grown from x that has P settled and fails a clause of each of the right leaves from j to 1
+pub record Candidate (P : Clause → Type 0) (Q : ℕ → Clause → Type 0) (j : ℕ) (x : Assignment) : Type 0 where
+  pub grown : Assignment
+  pub goes : Going (λ s. ⊥) x grown
+  pub fits : grown .on < 2 ^ 64
+  pub calm : grown .conflict ≡ false
+  pub apart : Apart grown
+  pub settled : Settled P grown
+  pub fails : (k : ℕ) → j ≤ k → k < 2 → (c : Clause) × Q k c × ((b : Bool) (f : ℕ) → bit f (mask b c) ≡ 1 → bit f (failing b grown) ≡ 1)
+
+-- a test that finds a candidate, and one wherever there is a witness
+pub record Sought (r : Bool) (P : Clause → Type 0) (Q : ℕ → Clause → Type 0) (j : ℕ) (x : Assignment) : Type 0 where
+  pub finds : T r → Candidate P Q j x
+  pub sees : Witness P Q j x → T r
+
 -- a state that agrees with x and meets P
 abbrev pub Model : (Clause → Type 0) → Assignment → Type 0
 Model P x = (s : ℕ) × Agrees s x × Meets P s
@@ -204,7 +219,23 @@ abbrev pub ruleOf : Bool → Clause → Bool
 ruleOf true c = twoCnfRule (c .positive) (c .negative)
 ruleOf false c = hornRule (c .positive) (c .negative)
 
--- m leaves, of four numbers each, whose clauses in the file keep to the rule
-pub record Usable (bytes leaves : List ℕ) (m : ℕ) (two : Bool) : Type 0 where
+-- leaf j is there, and the clauses that it names stand within the file
+pub record RoomAt (bytes leaves : List ℕ) (j : ℕ) : Type 0 where
+  pub long : 4 * j + 4 ≤ length leaves
+  pub inside : 3 ≤ getD leaves (4 * j) 0 → getD leaves (4 * j + 1) 0 + 16 * getD leaves (4 * j + 2) 0 ≤ length bytes
+
+-- so of each of m leaves
+pub record Roomy (bytes leaves : List ℕ) (m : ℕ) : Type 0 where
   pub long : 4 * m ≤ length leaves
+  pub inside : (j : ℕ) → j < m → 3 ≤ getD leaves (4 * j) 0 → getD leaves (4 * j + 1) 0 + 16 * getD leaves (4 * j + 2) 0 ≤ length bytes
+
+-- one of m leaves has these numbers, and is asked about the state before the action
+abbrev pub Before : List ℕ → ℕ → ℕ → ℕ → ℕ → Type 0
+Before leaves m kind at count =
+    (j : ℕ) × (j < m) × (getD leaves (4 * j) 0 ≡ kind) × (getD leaves (4 * j + 1) 0 ≡ at) × (getD leaves (4 * j + 2) 0 ≡ count)
+    × (eqb (getD leaves (4 * j + 3) 0) 1 ≡ false)
+
+-- m leaves whose clauses in the file keep to the rule
+pub record Usable (bytes leaves : List ℕ) (m : ℕ) (two : Bool) : Type 0 where
+  pub room : Roomy bytes leaves m
   pub shape : (j i : ℕ) → j < m → 3 ≤ getD leaves (4 * j) 0 → i < getD leaves (4 * j + 2) 0 → T (ruleOf two (wordsAt bytes (getD leaves (4 * j + 1) 0) i))

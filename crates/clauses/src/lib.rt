@@ -1,15 +1,17 @@
 // Clause statements for one action: the search for a state in which it applies, that meets every left clause and fails a
 // clause of each right leaf. Clauses are read from the file whenever they are looked at; none is kept.
 use certificate::bytes::u64_at;
+use certificate::bytes::u64_in;
 use meaning::Clause;
 use task::Action;
 ghost use mathlib.Core.Path.{_≡_};
 ghost use mathlib.Core.Bool.{true, false};
 ghost use Prim.Native.Nat.{_+_, _-_, _*_, _<_, _≤_, _^_};
 ghost use lib.ListN.{length};
+ghost use lib.Dec.{T};
 ghost use Rattle.task.specs.Facts.{without};
 ghost use Rattle.clauses.specs.Clauses.{clauseAt, clauseCount, sameAs, onIn, OfLeaf, OfLeaves, Refutes};
-ghost use Rattle.clauses.specs.Propagation.{acting, effectOf, pulledBy, wordsAt, Only, Below, ofWords, ofKind, LeafOf, LeftOf, Alike, Tells, Passed, Solved, Opposed, Assumed, Decided, Fillable, Ready, Model, Worth, Witness, Usable};
+ghost use Rattle.clauses.specs.Propagation.{acting, effectOf, pulledBy, wordsAt, Only, Below, ofWords, ofKind, LeafOf, LeftOf, Alike, Tells, Passed, Solved, Opposed, Assumed, Decided, Ready, Model, Worth, Sought, RoomAt, Roomy, Before, Usable};
 
 // Facts known to be on and facts known to be off.
 pub struct Assignment {
@@ -79,6 +81,18 @@ fn words_at(file: &[u8], at: u32, i: u32) -> Clause
     Clause {
         positive: u64_at(file, place),
         negative: u64_at(file, place + 8),
+    }
+}
+
+// The same, where the clause stands within the file.
+fn words_in(file: &[u8], at: u32, i: u32) -> Clause
+    requires { ⌜ at + 16 * i + 16 ≤ length (now file) ⌝ }
+    ensures { λ r. ⌜ r ≡ wordsAt (now (file .entry)) at i ⌝ }
+{
+    let place = at as usize + 16 * (i as usize);
+    Clause {
+        positive: u64_in(file, place),
+        negative: u64_in(file, place + 8),
     }
 }
 
@@ -204,12 +218,13 @@ pub fn unit(x: Assignment, c: Clause) -> Assignment
 
 // A look at each clause that stands in the file.
 fn pass_words(file: &[u8], at: u32, count: u32, by: Effect, start: Assignment) -> Assignment
+    requires { ⌜ at + 16 * count ≤ length (now file) ⌝ }
     ensures { λ r. ⌜ Passed (Below (ofWords (now (file .entry)) at by) count) start r ⌝ }
 {
     let mut x = start;
     let mut i = 0u32;
     while i < count {
-        let c = pulled(by, words_at(file, at, i));
+        let c = pulled(by, words_in(file, at, i));
         x = unit(x, c);
         if x.conflict {
             return x;
@@ -257,7 +272,7 @@ pub struct Case {
 
 // A look at each clause of leaf j.
 fn pass_leaf(file: &[u8], leaves: &[u32], k: Case, j: usize, x: Assignment) -> Assignment
-    requires { ⌜ 4 * j + 4 ≤ length (now leaves) ⌝ }
+    requires { ⌜ RoomAt (now file) (now leaves) j ⌝ }
     ensures { λ r. ⌜ Passed (LeafOf (now (file .entry)) (now (leaves .entry)) k j) x r ⌝ }
 {
     let kind = leaves[4 * j];
@@ -272,7 +287,7 @@ fn pass_leaf(file: &[u8], leaves: &[u32], k: Case, j: usize, x: Assignment) -> A
 
 // A look at each clause of the left leaves.
 fn pass(file: &[u8], left: &[u32], k: Case, start: Assignment) -> Assignment
-    requires { ⌜ 4 * k .m ≤ length (now left) ⌝ }
+    requires { ⌜ Roomy (now file) (now left) (k .m) ⌝ }
     ensures { λ r. ⌜ Passed (LeftOf (now (file .entry)) (now (left .entry)) k) start r ⌝ }
 {
     let m = k.m;
@@ -297,7 +312,7 @@ fn alike(x: Assignment, y: Assignment) -> bool
 
 // Looks until nothing changes, or up to a conflict.
 fn solve(file: &[u8], left: &[u32], k: Case, start: Assignment) -> Assignment
-    requires { ⌜ 4 * k .m ≤ length (now left) ⌝ }
+    requires { ⌜ Roomy (now file) (now left) (k .m) ⌝ }
     ensures { λ r. ⌜ Solved (LeftOf (now (file .entry)) (now (left .entry)) k) start r ⌝ }
 {
     let mut x = start;
@@ -328,7 +343,7 @@ fn opposite(x: Assignment, c: Clause) -> Assignment
 
 // The clause is taken to fail, and the left leaves are settled again where that says anything new.
 fn assume(file: &[u8], left: &[u32], k: Case, x: Assignment, c: Clause) -> Assignment
-    requires { ⌜ 4 * k .m ≤ length (now left) ⌝ }
+    requires { ⌜ Roomy (now file) (now left) (k .m) ⌝ }
     ensures { λ r. ⌜ Assumed (LeftOf (now (file .entry)) (now (left .entry)) k) c x r ⌝ }
 {
     let y = opposite(x, c);
@@ -345,7 +360,7 @@ fn assume(file: &[u8], left: &[u32], k: Case, x: Assignment, c: Clause) -> Assig
 
 // Fact i is told off where the left leaves can be settled so, else on. A fact that is known stays as it is.
 fn decide(file: &[u8], left: &[u32], k: Case, x: Assignment, i: u32) -> Assignment
-    requires { ⌜ (i < 64) × (4 * k .m ≤ length (now left)) ⌝ }
+    requires { ⌜ (i < 64) × Roomy (now file) (now left) (k .m) ⌝ }
     ensures { λ r. ⌜ Decided (LeftOf (now (file .entry)) (now (left .entry)) k) i x r ⌝ }
 {
     if ((x.on | x.off) >> i) % 2 == 1 {
@@ -385,7 +400,8 @@ fn satisfiable(file: &[u8], left: &[u32], k: Case, start: Assignment) -> bool
     true
 }
 
-// Whether the search is worth its while: false only where no state agrees with the settled assignment and meets the left leaves.
+// Whether what the search finds can be filled up to a state: false only where no state agrees with the settled assignment and
+// meets the left leaves.
 fn worth(file: &[u8], left: &[u32], k: Case, two: bool, x: Assignment) -> bool
     requires { ⌜ Usable (now file) (now left) (k .m) two × Ready (LeftOf (now file) (now left) k) x ⌝ }
     ensures { λ r. ⌜ Worth (LeftOf (now (file .entry)) (now (left .entry)) k) x r ⌝ }
@@ -399,11 +415,39 @@ fn worth(file: &[u8], left: &[u32], k: Case, two: bool, x: Assignment) -> bool
     true
 }
 
-// Whether a state agrees with x, meets the left leaves and fails a clause of each right leaf from j to 1.
+// Whether two clauses are the same.
+fn same(c: Clause, d: Clause) -> bool
+    ensures { λ r. ⌜ (T r → c ≡ d) ⌝ }
+{
+    let p = c.positive;
+    let q = d.positive;
+    let m = c.negative;
+    let n = d.negative;
+    (p == q) & (m == n)
+}
+
+// Whether a leaf with these numbers is among the left leaves, asked about the state before the action.
+fn is_before(left: &[u32], m: usize, kind: u32, at: u32, count: u32) -> bool
+    requires { ⌜ 4 * m ≤ length (now left) ⌝ }
+    ensures { λ r. ⌜ (T r → Before (now (left .entry)) m kind at count) ⌝ }
+{
+    let mut j = 0;
+    while j < m {
+        let i = 4 * j;
+        if (left[i] == kind) & (left[i + 1] == at) & (left[i + 2] == count) & (left[i + 3] != 1) {
+            return true;
+        }
+        j += 1;
+    }
+    false
+}
+
+// Whether x can be settled with a clause of each right leaf from j to 1 taken to fail. A right clause that the action leaves
+// as it is, and that is a left clause too, cannot fail.
 fn seek(file: &[u8], left: &[u32], right: &[u32], k: Case, j: usize, x: Assignment) -> bool
-    requires { ⌜ (4 * k .m ≤ length (now left)) × (8 ≤ length (now right)) × (j ≤ 2) ⌝ }
-    requires { ⌜ Fillable (LeftOf (now file) (now left) k) × Ready (LeftOf (now file) (now left) k) x ⌝ }
-    ensures { λ r. ⌜ Tells r (Witness (LeftOf (now (file .entry)) (now (left .entry)) k) (LeafOf (now (file .entry)) (now (right .entry)) k) j x) ⌝ }
+    requires { ⌜ Roomy (now file) (now left) (k .m) × (8 ≤ length (now right)) × (j ≤ 2) ⌝ }
+    requires { ⌜ Ready (LeftOf (now file) (now left) k) x ⌝ }
+    ensures { λ r. ⌜ Sought r (LeftOf (now (file .entry)) (now (left .entry)) k) (LeafOf (now (file .entry)) (now (right .entry)) k) j x ⌝ }
 {
     if x.conflict {
         return false;
@@ -413,13 +457,20 @@ fn seek(file: &[u8], left: &[u32], right: &[u32], k: Case, j: usize, x: Assignme
     }
     let kind = right[4 * j];
     let at = right[4 * j + 1];
-    let many = clause_count(kind, right[4 * j + 2]);
+    let count = right[4 * j + 2];
+    let many = clause_count(kind, count);
     let by = effect_of(k.action, right[4 * j + 3] == 1);
+    let before = is_before(left, k.m, kind, at, count);
     let init = k.init;
     let goal = k.goal;
     let mut i = 0u32;
     while i < many {
-        let c = pulled(by, clause_at(file, init, goal, kind, at, i));
+        let d = clause_at(file, init, goal, kind, at, i);
+        let c = pulled(by, d);
+        if before & same(c, d) {
+            i += 1;
+            continue;
+        }
         let y = assume(file, left, k, x, c);
         if seek(file, left, right, k, j + 1, y) {
             return true;
@@ -472,8 +523,8 @@ pub fn refuted(
         negative: a.pre,
     };
     let y = solve(file, left, k, opposite(nothing, start));
-    if worth(file, left, k, two, y) {
-        return seek(file, left, right, k, 0, y);
+    if seek(file, left, right, k, 0, y) {
+        return worth(file, left, k, two, y);
     }
     false
 }

@@ -86,6 +86,15 @@ module _ (bytes : List ℕ) (p n : ℕ) where
   basic-fit (horn cs) h z t = clauses-fit hornRule cs h z
   basic-fit (twoCnf cs) h z t = clauses-fit twoCnfRule cs h z
 
+  clauses-inside : (b : Basic) → BasicItems bytes p b → 4 ≤ basicKind b → placeOf p b + 16 * countOf p b ≤ length bytes
+  unfolding numbersOf viewOfBasic span basicKind
+  clauses-inside empty h t = absurd (omega arith)
+  clauses-inside init h t = absurd (omega arith)
+  clauses-inside goal h t = absurd (omega arith)
+  clauses-inside (explicit ss) h t = absurd (omega arith)
+  clauses-inside (horn cs) h t = h .inside
+  clauses-inside (twoCnf cs) h t = h .inside
+
 -- ---- a checked file
 
 module _ (bytes : List ℕ) (at : Places) (index : List ℕ) (k : Known bytes at index) where
@@ -121,6 +130,12 @@ module _ (bytes : List ℕ) (at : Places) (index : List ℕ) (k : Known bytes at
     leaf-ascends =
         by-leaf bytes at index k flat j x is (λ _ _ kind place count _. T (eqb kind 3) → Ascending 0 (statesAt bytes place count))
         (states-ascend bytes (statePlace index (x .entry)) (decoded bytes .task .facts))
+
+    -- the clauses of a leaf of kind 4 or 5 are within the file
+    pub leaf-inside : 4 ≤ getD flat (4 * j) 0 → getD flat (4 * j + 1) 0 + 16 * getD flat (4 * j + 2) 0 ≤ length bytes
+    leaf-inside =
+        by-leaf bytes at index k flat j x is (λ _ _ kind place count _. 4 ≤ kind → place + 16 * count ≤ length bytes)
+        (λ b h w. clauses-inside bytes (statePlace index (x .entry)) 0 b h)
 
     -- clause i of a leaf of kind 4 or 5 is within the facts, and keeps the kind's rule
     pub leaf-fits : 4 ≤ getD flat (4 * j) 0

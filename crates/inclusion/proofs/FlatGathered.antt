@@ -27,7 +27,7 @@ use Rattle.shapes.specs.Gathered.{leftOf, rightOf, kindsOf, Gathers}
 use Rattle.shapes.proofs.FlatLaws.{Holding, leaf-is}
 use Rattle.inclusion.proofs.FlatListed.{noLeaf, shows-refuted}
 use Rattle.inclusion.proofs.FlatRefutes.{Unlisted, refutes-refuted}
-use Rattle.inclusion.proofs.FlatFits.{ClausesFit, ruleFor, leaf-fits}
+use Rattle.inclusion.proofs.FlatFits.{ClausesFit, ruleFor, leaf-fits, leaf-inside}
 
 -- what stands in a list stands among its values
 member-map : {A : Type 0} (g : A → ℕ) (d : A) (xs : List A) (j : ℕ) → j < length xs → T (member (g (getD xs j d)) (map g xs))
@@ -130,6 +130,9 @@ module _ (bytes : List ℕ) (at : Places) (index : List ℕ) (k : Known bytes at
       left-rule =
           subst (λ (u : ℕ → ℕ → Bool). ClausesFit bytes (decoded bytes .task .facts) u (getD left (4 * j + 1) 0) (getD left (4 * j + 2) 0)) rule-is
           (leaf-fits bytes at index k left (r .«left_count») lefts holding-left j l (past-three kind (unlisted-left j l) three))
+
+      pub left-inside : getD left (4 * j + 1) 0 + 16 * getD left (4 * j + 2) 0 ≤ length bytes
+      left-inside = leaf-inside bytes at index k left (r .«left_count») lefts holding-left j l (past-three kind (unlisted-left j l) three)
 
     -- the right clauses in the file keep their kind's rule
     pub right-rule : (j : ℕ) → j < r .«right_count» → 3 ≤ getD right (4 * j) 0

@@ -19,7 +19,7 @@ use Rattle.clauses.specs.Propagation.{wordsAt, ruleOf, Usable, Tells}
 use Rattle.clauses.specs.Clauses.{OfLeaf, OfLeaves, Refutes}
 use Rattle.shapes.proofs.FlatLaws.{Holding}
 use Rattle.inclusion.proofs.FlatFits.{holding-room, leaf-ascends}
-use Rattle.inclusion.proofs.FlatGathered.{ruleBy, holding-left, holding-right, left-rule, clauses-refuted}
+use Rattle.inclusion.proofs.FlatGathered.{ruleBy, holding-left, holding-right, left-rule, left-inside, clauses-refuted}
 
 module _ (bytes : List ℕ) (at : Places) (index : List ℕ) (k : Known bytes at index) where
   pub readable : (flat : List ℕ) (m : ℕ) (xs : List Leaf) → Holding index (decoded bytes) flat m xs → Readable bytes (at .init) (at .goal) flat m
@@ -43,7 +43,10 @@ module _ (bytes : List ℕ) (at : Places) (index : List ℕ) (k : Known bytes at
       → Usable bytes left (r .«left_count») (r .two)
   unfolding wordsAt
   usable rule a b left right r g e = record {
-    long = holding-room index (decoded bytes) left (r .«left_count») (leftOf (decoded bytes) rule a b) (holding-left bytes at index k rule a b left right r g);
+    room = record {
+      long = holding-room index (decoded bytes) left (r .«left_count») (leftOf (decoded bytes) rule a b) (holding-left bytes at index k rule a b left right r g);
+      inside = λ j l three. left-inside bytes at index k rule a b left right r g e j l three;
+    };
     shape = λ j i l three m. by-rule (r .two) _ (left-rule bytes at index k rule a b left right r g e j l three i m .2);
   }
 

@@ -1,4 +1,4 @@
--- `inclusion::clauses::alike` meets its contract.
+-- `clauses::alike` meets its contract.
 -- Assumes nothing.
 use Rattle.clauses.proofs.PassLaws.{alike-code}
 use Rattle.clauses.proofs.alike.Statement.{statement}

@@ -1,4 +1,4 @@
--- `inclusion::clauses::assume` meets its contract.
+-- `clauses::assume` meets its contract.
 -- Assumes nothing.
 use Rattle.clauses.proofs.AssumeLaws.{assumed-conflict, assumed-same, assumed-solved}
 use Rattle.task.proofs.Tests.{holds}

@@ -1,4 +1,4 @@
--- `inclusion::clauses::clause_at` meets its contract.
+-- `clauses::clause_at` meets its contract.
 -- Assumes nothing.
 use mathlib.Core.Path.{sym, _∙_}
 use Rattle.clauses.proofs.CodeLaws.{at-words}

@@ -1,4 +1,4 @@
--- `inclusion::clauses::clause_count` meets its contract.
+-- `clauses::clause_count` meets its contract.
 -- Assumes nothing.
 use mathlib.Core.Path.{sym}
 use Rattle.clauses.proofs.CodeLaws.{count-unit, count-words}

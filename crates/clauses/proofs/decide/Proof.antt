@@ -1,4 +1,4 @@
--- `inclusion::clauses::decide` meets its contract.
+-- `clauses::decide` meets its contract.
 -- Assumes nothing.
 use Rattle.clauses.proofs.SeekLaws.{decided-already, decided-off, decided-on}
 use borrow.Author.Needs.{needs}

@@ -1,4 +1,4 @@
--- `inclusion::clauses::effect_of` meets its contract.
+-- `clauses::effect_of` meets its contract.
 -- Assumes nothing.
 use Rattle.clauses.specs.Propagation.{acting, effectOf}
 use Rattle.clauses.proofs.CodeLaws.{no-effect}

@@ -1,4 +1,4 @@
--- `inclusion::clauses::fact` meets its contract.
+-- `clauses::fact` meets its contract.
 -- Assumes nothing.
 use Rattle.clauses.proofs.CodeLaws.{power-fits}
 use borrow.Author.Needs.{needs}

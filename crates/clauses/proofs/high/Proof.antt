@@ -1,4 +1,4 @@
--- `inclusion::clauses::high` meets its contract.
+-- `clauses::high` meets its contract.
 -- Assumes nothing.
 use Prim.Native.Nat.{_-_}
 use lib.Pow.{pow-pos}

@@ -1,4 +1,4 @@
--- `inclusion::clauses::on_in` meets its contract.
+-- `clauses::on_in` meets its contract.
 -- Assumes nothing.
 use Rattle.clauses.proofs.CodeLaws.{on-on, on-off}
 use borrow.Author.Needs.{needs}

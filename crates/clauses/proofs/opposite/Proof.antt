@@ -1,4 +1,4 @@
--- `inclusion::clauses::opposite` meets its contract.
+-- `clauses::opposite` meets its contract.
 -- Assumes nothing.
 use Rattle.clauses.proofs.AssumeLaws.{opposed}
 use Rattle.clauses.proofs.opposite.Statement.{statement}

@@ -1,4 +1,4 @@
--- `inclusion::clauses::pass` meets its contract.
+-- `clauses::pass` meets its contract.
 -- Assumes nothing.
 use Rattle.clauses.specs.Clauses.{OfLeaf}
 use borrow.Author.Needs.{needs}
@@ -19,6 +19,11 @@ abbrev μ-loop : tie.MeasureT-loop
 loop-holds : tie.Need-loop-holds Inv-loop μ-loop
 loop-holds c = (search needs, passed-none _ _)
 
+pass-leaf-requires : tie.Need-pass-leaf-requires Inv-loop μ-loop
+pass-leaf-requires c κs =
+    let s = c .before .before .before .before in
+    record { long = search needs; inside = s .pre .inside (c .before .loop .j) (search needs) }
+
 returns : tie.Need-returns Inv-loop μ-loop
 returns c = passed-early (OfLeaf _ _ _ _ _) _ _ (search needs) (c .if1 .taken) (c .before .before .before .loop .inv .1) (c .before .pass-leaf .ensures)
 
@@ -37,7 +42,7 @@ pass-spec =
     Inv-loop
     μ-loop
     loop-holds
-    (λ c κs. search needs)
+    pass-leaf-requires
     returns
     (λ c. search needs)
     (λ c. search needs)

@@ -1,4 +1,4 @@
--- `inclusion::clauses::pass_any` meets its contract.
+-- `clauses::pass_any` meets its contract.
 -- Assumes nothing.
 use borrow.Author.Needs.{needs}
 use Rattle.clauses.proofs.CodeLaws.{count-low}

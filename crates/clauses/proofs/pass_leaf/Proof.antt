@@ -1,4 +1,4 @@
--- `inclusion::clauses::pass_leaf` meets its contract.
+-- `clauses::pass_leaf` meets its contract.
 -- Assumes nothing.
 use Rattle.clauses.proofs.LeafLaws.{passed-kind, passed-words}
 use borrow.Author.Needs.{needs}
@@ -9,6 +9,11 @@ returns : tie.Need-returns
 returns c =
     let a = c .before .before .before .before .before .before .before .before .before .args in
     passed-kind (a .file .now) (a .k .init) (a .k .goal) (a .k .action) (a .leaves .now) (a .j) (rw (c .before .before .effect-of .ensures) at (c .pass-any .ensures))
+
+pass-words-requires : tie.Need-pass-words-requires
+pass-words-requires c κs =
+    let s = c .before .before .before .before .before .before .before .before in
+    s .pre .inside (search needs)
 
 returns-2 : tie.Need-returns-2
 returns-2 c =
@@ -37,5 +42,5 @@ pass-leaf-spec =
     (λ c κs. search needs)
     (λ c κs. search needs)
     returns
-    (λ c κs. search needs)
+    pass-words-requires
     returns-2)

@@ -1,4 +1,4 @@
--- `inclusion::clauses::pass_words` meets its contract.
+-- `clauses::pass_words` meets its contract.
 -- Assumes nothing.
 use borrow.Author.Needs.{needs}
 use mathlib.Core.Path.{_≡_}
@@ -21,12 +21,12 @@ loop-holds c = (search needs, passed-none _ _)
 returns : tie.Need-returns Inv-loop μ-loop
 returns c =
     passed-early (ofWords _ _ _) _ _ (search needs) (c .if1 .taken) (c .before .before .before .before .before .loop .inv .1)
-    (rw (c .before .before .pulled .ensures, c .before .before .before .words-at .ensures) at (c .before .unit .ensures))
+    (rw (c .before .before .pulled .ensures, c .before .before .before .words-in .ensures) at (c .before .unit .ensures))
 
 loop-again : tie.Need-loop-again Inv-loop μ-loop
 loop-again c = (
   search needs,
-  passed-more (ofWords _ _ _) _ (c .before .before .before .before .before .loop .inv .1) (rw (c .before .before .pulled .ensures, c .before .before .before .words-at .ensures) at (c .before .unit .ensures)),
+  passed-more (ofWords _ _ _) _ (c .before .before .before .before .before .loop .inv .1) (rw (c .before .before .pulled .ensures, c .before .before .before .words-in .ensures) at (c .before .unit .ensures)),
 )
 
 returns-2 : tie.Need-returns-2 Inv-loop μ-loop

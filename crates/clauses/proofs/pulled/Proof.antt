@@ -1,4 +1,4 @@
--- `inclusion::clauses::pulled` meets its contract.
+-- `clauses::pulled` meets its contract.
 -- Assumes nothing.
 use Rattle.clauses.proofs.CodeLaws.{code-met, code-rest}
 use borrow.Author.Needs.{needs}

@@ -1,4 +1,4 @@
--- `inclusion::clauses::same_as` meets its contract.
+-- `clauses::same_as` meets its contract.
 -- Assumes nothing.
 use Rattle.clauses.proofs.CodeLaws.{same-on, same-off}
 use borrow.Author.Needs.{needs}

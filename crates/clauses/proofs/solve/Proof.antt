@@ -1,4 +1,4 @@
--- `inclusion::clauses::solve` meets its contract.
+-- `clauses::solve` meets its contract.
 -- Assumes nothing.
 use borrow.Author.Needs.{needs}
 use Rattle.clauses.proofs.PassLaws.{going-none, going-more, solved-conflict, solved-fixed, unlike-less}

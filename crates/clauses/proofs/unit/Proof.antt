@@ -1,4 +1,4 @@
--- `inclusion::clauses::unit` meets its contract.
+-- `clauses::unit` meets its contract.
 -- Assumes nothing.
 use mathlib.Core.Bool.{true, false}
 use mathlib.Core.Path.{refl}

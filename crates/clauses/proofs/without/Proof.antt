@@ -1,4 +1,4 @@
--- `inclusion::clauses::without` meets its contract.
+-- `clauses::without` meets its contract.
 -- Assumes nothing.
 use borrow.Author.Needs.{needs}
 use Rattle.task.proofs.Bits.{without-and}

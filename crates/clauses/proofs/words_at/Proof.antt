@@ -1,4 +1,4 @@
--- `inclusion::clauses::words_at` meets its contract.
+-- `clauses::words_at` meets its contract.
 -- Assumes nothing.
 use Rattle.clauses.specs.Propagation.{wordsAt}
 use borrow.Author.Needs.{needs}

@@ -1,4 +1,4 @@
--- `inclusion::clauses::worth` meets its contract.
+-- `clauses::worth` meets its contract.
 -- Assumes nothing.
 use Rattle.clauses.proofs.StartLaws.{worth-conflict, worth-two, worth-horn}
 use Rattle.clauses.specs.Propagation.{Usable}

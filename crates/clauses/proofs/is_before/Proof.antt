@@ -1,0 +1,43 @@
+-- `clauses::is_before` meets its contract.
+-- Assumes nothing.
+use borrow.Author.Needs.{needs}
+use Prim.Native.Nat.{_≤_, _-_}
+use Rattle.clauses.proofs.CodeLaws.{before-at}
+use Rattle.clauses.proofs.is_before.Statement.{statement}
+use Rattle.clauses.proofs.is_before.Tie as tie
+
+abbrev Inv-loop : tie.InvT-loop
+Inv-loop left m kind at count j₀ j = j ≤ m
+
+abbrev μ-loop : tie.MeasureT-loop
+μ-loop left m kind at count j₀ j = m - j
+
+returns : tie.Need-returns Inv-loop μ-loop
+returns c =
+    let a = c .before .before .before .before .before .before .before .args in
+    λ t. before-at (a .left .now) (a .m) (a .kind) (a .at) (a .count) (c .before .before .before .before .before .before .loop .j) (search needs) (c .if1 .taken)
+
+pub is-before-spec : {M : Type 1} → statement M
+is-before-spec =
+    tie.close
+    (tie.spec
+    Inv-loop
+    μ-loop
+    (λ c. search needs)
+    (λ c. search needs)
+    (λ c. search needs)
+    (λ c. search needs)
+    (λ c. search needs)
+    (λ c. search needs)
+    (λ c. search needs)
+    (λ c. search needs)
+    (λ c. search needs)
+    (λ c. search needs)
+    (λ c. search needs)
+    (λ c. search needs)
+    (λ c. search needs)
+    returns
+    (λ c. search needs)
+    (λ c. search needs)
+    (λ c. search needs)
+    (λ c t. absurd t))
