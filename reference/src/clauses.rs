@@ -83,12 +83,18 @@ fn right_clauses(task: &Task, file: &File, set: StateSet) -> Vec<Clause> {
     }
 }
 
+/// A right leaf: its clauses, and whether it is also said of the state before the action.
+struct Right {
+    clauses: Vec<Clause>,
+    before: bool,
+}
+
 /// A statement made ready: what is said of the state before the action, what of the
 /// state after it, and the right leaves.
 struct Problem {
     before: Conditions,
     after: Conditions,
-    right: Vec<Vec<Clause>>,
+    right: Vec<Right>,
     right_is_after: bool,
     method: Method,
     /// Facts of n or above are off.
@@ -103,11 +109,14 @@ pub fn holds(file: &File, st: &Statement) -> bool {
     };
     let forward = matches!(st.bracket, Bracket::Progression(_));
     let (before, after) = if forward { (inside, left) } else { (left, inside) };
+    let known = if forward { &st.inside } else { &st.left };
     let rights = st.right.all().iter().filter(|set| **set != StateSet::Empty);
     let problem = Problem {
         before,
         after,
-        right: rights.map(|&set| right_clauses(&file.task, file, set)).collect(),
+        right: rights
+            .map(|&set| Right { clauses: right_clauses(&file.task, file, set), before: known.all().contains(&set) })
+            .collect(),
         right_is_after: forward,
         method: st.method,
         beyond: !file.task.all_facts(),
@@ -154,9 +163,14 @@ impl Problem {
     /// Whether one clause of each right leaf can fail together without a conflict. The
     /// facts then found leave each open clause alone, so they go with any model of the
     /// left side: whether there is one is asked once, by the caller.
-    fn some_fail(&self, right: &[Vec<Clause>], action: &Action, work: &[Clause], known: Known) -> bool {
+    fn some_fail(&self, right: &[Right], action: &Action, work: &[Clause], known: Known) -> bool {
         let Some((first, others)) = right.split_first() else { return true };
-        first.iter().any(|&clause| {
+        let changed = action.add | action.del;
+        first.clauses.iter().any(|&clause| {
+            // It holds before the action, which leaves it alone.
+            if first.before && (clause.positive | clause.negative) & changed == 0 {
+                return false;
+            }
             let Some(clause) = pulled(clause, action) else { return false };
             let mut next = known;
             if !next.fail(clause) {

@@ -14,7 +14,7 @@ pub fn holds(file: &File, st: &Statement) -> bool {
             let states = listing(file, &st.inside);
             let others = more_than_one(&st.inside);
             let within = |s: &&State| !others || in_all(file, &st.inside, **s);
-            states.iter().filter(within).all(|&s| !leads_outside(file, st, &actions, s))
+            actions.iter().all(|a| !leads_outside(file, st, a, states.iter().filter(within)))
         }
         Bracket::Regression(marks) => {
             let actions = chosen(file, marks);
@@ -25,9 +25,46 @@ pub fn holds(file: &File, st: &Statement) -> bool {
     }
 }
 
-/// Whether some action leads from the state to a counterexample.
-fn leads_outside(file: &File, st: &Statement, actions: &[Action], state: State) -> bool {
-    actions.iter().any(|a| a.applies(state) && outside(file, st, a.after(state)))
+/// Whether the action leads from one of the states to a counterexample. Where a state goes
+/// to is looked for next to where the one before it went.
+fn leads_outside<'a>(file: &File, st: &Statement, a: &Action, states: impl Iterator<Item = &'a State>) -> bool {
+    let mut near = 0;
+    let listed = match st.right.all().first() {
+        Some(StateSet::Explicit(span)) => span.of(&file.states),
+        _ => &[],
+    };
+    states.filter(|s| a.applies(**s)).any(|s| {
+        let t = a.after(*s);
+        match find(listed, near, t) {
+            Some(k) => {
+                near = k + 1;
+                false
+            }
+            None => outside(file, st, t),
+        }
+    })
+}
+
+/// Where the state stands in the ascending list, looked for from a guess in growing steps.
+fn find(list: &[State], guess: usize, state: State) -> Option<usize> {
+    let within = |lo: usize, hi: usize, k: usize| if lo <= k && k < hi { k } else { lo + (hi - lo) / 2 };
+    let (mut lo, mut hi, mut step) = (0, list.len(), 1);
+    let mut middle = within(lo, hi, guess);
+    while lo < hi {
+        let found = list[middle];
+        if found == state {
+            return Some(middle);
+        }
+        if found < state {
+            lo = middle + 1;
+            middle = within(lo, hi, middle + step);
+        } else {
+            hi = middle;
+            middle = within(lo, hi, middle.wrapping_sub(step));
+        }
+        step *= 2;
+    }
+    None
 }
 
 fn chosen(file: &File, marks: crate::file::Marks) -> Vec<Action> {

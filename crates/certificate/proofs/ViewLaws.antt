@@ -10,8 +10,8 @@ use Rattle.certificate.specs.declared.Places.{Places}
 use Rattle.meaning.specs.Result.{found}
 use Rattle.meaning.specs.File.{all, basic, empty, File, actionSetAt, stateSetAt, stepAt}
 use Rattle.meaning.specs.Layout.{readFile}
-use Rattle.certificate.specs.Views.{entryPlace, placesOf, viewOfStep}
-use Rattle.certificate.specs.Index.{actionIn, fieldsAt, fieldsOf, stepOf, capped, Index}
+use Rattle.certificate.specs.Views.{entryPlace, placesOf}
+use Rattle.certificate.specs.Index.{actionIn, fieldsAt, fieldsOf, capped, Index}
 use Rattle.meaning.proofs.Reading.{file-read}
 use Rattle.certificate.proofs.ItemLaws.{stepRead}
 use Rattle.certificate.proofs.EntryLaws.{StateSetStands, ActionSetStands}
@@ -78,10 +78,6 @@ module _ (bytes : List ℕ) (f : File) (r : readFile bytes ≡ found f) where
   pub fields-at : (k : ℕ) → k < length (f .steps) → fieldsAt bytes (placesOf bytes f .«steps_at» + 12 * k) ≡ fieldsOf (stepAt f k)
   unfolding stepAt fieldsAt fieldsOf stepRead
   fields-at k l = ap fieldsOf (parts .steps .here (record { rule = 0; kind = 0; left = 0; right = 0; premises = [] }) k l)
-
-  pub step-at : (k : ℕ) → k < length (f .steps) → stepOf (fieldsAt bytes (placesOf bytes f .«steps_at» + 12 * k)) ≡ viewOfStep (stepAt f k)
-  unfolding stepOf viewOfStep fieldsOf
-  step-at k l = ap stepOf (fields-at k l)
 
   -- ---- the same by the table of places
 

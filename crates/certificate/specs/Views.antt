@@ -14,7 +14,6 @@ use Rattle.certificate.specs.declared.StateEntry.{StateEntry}
 use Rattle.certificate.specs.declared.StateEntry.the-variants.{Empty, Init, Goal, Explicit, Horn, TwoCnf, Complement, Intersection, Union, Progression, Regression}
 use Rattle.certificate.specs.declared.Judgement.{Judgement}
 use Rattle.certificate.specs.declared.Judgement.the-variants.{Dead, Within, ActionsWithin, Unsolvable}
-use Rattle.certificate.specs.declared.Step as code
 use Rattle.meaning.specs.Result.{Result, refuse, found}
 use Rattle.meaning.specs.Bytes.{number, inside}
 use Rattle.meaning.specs.File.{ActionSet, all, listed, either, Basic, empty, init, goal, explicit, horn, twoCnf, StateSet, basic, complement, intersection, union, progression, regression, Step, File}
@@ -111,6 +110,3 @@ viewOfActions p (either a b) = Either a b
 -- a judgement of kind k about entries a and b
 unfoldable pub judgementOf : ℕ → ℕ → ℕ → Judgement
 judgementOf k a b = getD (Dead a ∷ Within a b ∷ ActionsWithin a b ∷ []) k Unsolvable
-
-unfoldable pub viewOfStep : Step → code.Step
-viewOfStep s = record { rule = s .rule; judgement = judgementOf (s .kind) (s .left) (s .right); premises = s .premises }

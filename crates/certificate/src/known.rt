@@ -5,7 +5,7 @@ use crate::StateEntry;
 use crate::views;
 use crate::views::Fields;
 use crate::views::action_at;
-use crate::views::fields_at;
+use crate::views::fields_in;
 use task::Action;
 ghost use mathlib.Core.Path.{_≡_};
 ghost use Prim.Native.Nat.{_<_};
@@ -59,5 +59,5 @@ pub fn fields(file: &[u8], at: Places, index: &[u16; 768], k: u16) -> Fields
     ensures { λ r. ⌜ r ≡ fieldsOf (stepAt (decoded (now (file .entry))) k) ⌝ }
 {
     let p = at.steps_at + 12 * k as u32;
-    fields_at(file, p)
+    fields_in(file, p)
 }

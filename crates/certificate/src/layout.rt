@@ -1,10 +1,11 @@
 // How a file is read, front to back, with replies 1 to 7 at the written places and in the written order.
 use crate::Outline;
 use crate::Places;
-use crate::bytes::byte_at;
 use crate::bytes::u16_at;
 use crate::bytes::u32_at;
 use crate::bytes::u64_at;
+use crate::reader::entry_head;
+use crate::reader::task_head;
 ghost use mathlib.Core.Path.{_≡_};
 ghost use mathlib.Core.Bool.{true};
 ghost use Prim.Native.Nat.{ℕ, _+_, _*_, _/_, _^_, _<_, _≤_};
@@ -302,14 +303,15 @@ fn entry(file: &[u8], s: Section, i: u16, place: u32) -> Verdict
     if !inside(file, 2, at) {
         return Verdict::Refused { number: 3, place };
     }
-    let len = u16_at(file, at) as usize;
+    let head = entry_head(file, place);
+    let len = head.len as usize;
     if !inside(file, 2 + len, at) {
         return Verdict::Refused { number: 3, place };
     }
     if len < 1 {
         return Verdict::Refused { number: 4, place };
     }
-    let form = form_at(s, i, byte_at(file, at + 2));
+    let form = form_at(s, i, head.kind);
     if !known(form) {
         return Verdict::Refused {
             number: 4,
@@ -439,7 +441,8 @@ fn task(file: &[u8]) -> Verdict
             place: 4,
         };
     }
-    if byte_at(file, 4) != 1 {
+    let head = task_head(file);
+    if head.version != 1 {
         return Verdict::Refused {
             number: 2,
             place: 4,
@@ -451,7 +454,7 @@ fn task(file: &[u8]) -> Verdict
             place: 5,
         };
     }
-    let n = byte_at(file, 5);
+    let n = head.facts;
     if !((1 <= n) & (n <= 64)) {
         return Verdict::Refused {
             number: 4,
@@ -466,7 +469,7 @@ fn task(file: &[u8]) -> Verdict
     if let Verdict::Refused { number, place } = w {
         return Verdict::Refused { number, place };
     }
-    masks(file, n, 24, 3 * (u16_at(file, 22) as u32))
+    masks(file, n, 24, 3 * (head.actions as u32))
 }
 
 // What follows the actions, of a file with so many facts and actions.
@@ -536,21 +539,20 @@ pub fn read_layout(file: &[u8]) -> Outline
     if let Verdict::Refused { number, place } = v {
         return Outline::Refused { number, place };
     }
-    let facts = byte_at(file, 5);
-    let actions = u16_at(file, 22);
-    let rest = after_task(file, facts, actions);
+    let head = task_head(file);
+    let rest = after_task(file, head.facts, head.actions);
     match rest {
         Rest::Refused { number, place } => Outline::Refused { number, place },
         Rest::After {
             action_sets,
             state_sets,
         } => {
-            let first = 24 + 24 * (actions as u32);
+            let first = 24 + 24 * (head.actions as u32);
             Outline::Lawful(Places {
-                facts,
-                init: u64_at(file, 6),
-                goal: u64_at(file, 14),
-                actions,
+                facts: head.facts,
+                init: head.init,
+                goal: head.goal,
+                actions: head.actions,
                 action_sets: u16_at(file, first as usize),
                 state_sets: u16_at(file, action_sets as usize),
                 steps: u16_at(file, state_sets as usize),

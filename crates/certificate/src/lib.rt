@@ -3,6 +3,7 @@
 pub mod bytes;
 pub mod known;
 pub mod layout;
+pub mod reader;
 pub mod views;
 
 // The task's numbers, how many of each part a file has, and where the parts after the actions start.

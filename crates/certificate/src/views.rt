@@ -6,15 +6,16 @@ use crate::Span;
 use crate::StateEntry;
 use crate::Step;
 use crate::bytes::byte_at;
+use crate::bytes::byte_in;
 use crate::bytes::u16_at;
+use crate::bytes::u16_in;
 use crate::bytes::u64_at;
-use meaning::Clause;
 use task::Action;
 ghost use mathlib.Core.Path.{_≡_};
-ghost use Prim.Native.Nat.{_+_, _-_, _*_};
-ghost use lib.ListN.{getD};
+ghost use Prim.Native.Nat.{_+_, _-_, _*_, _≤_};
+ghost use lib.ListN.{length, getD};
 ghost use Rattle.certificate.specs.Views.{numberAt, stateEntryAt, actionEntryAt, judgementOf};
-ghost use Rattle.certificate.specs.Index.{headAt, stateOf, actionsOf, fieldsAt, stepOf, actionIn, clauseAt, capped, Indexed, Index};
+ghost use Rattle.certificate.specs.Index.{headAt, stateOf, actionsOf, fieldsAt, stepOf, actionIn, capped, Indexed, Index};
 
 // The numbers of an entry: its kind, where its body starts and how long it is, and the two numbers that start the body.
 pub struct Head {
@@ -129,19 +130,20 @@ pub fn judgement_of(kind: u8, a: u16, b: u16) -> Judgement
     }
 }
 
-// The fields of step k, where step 0 starts at a place.
-pub fn nth_fields(file: &[u8], first: u32, k: u16) -> Fields
-    ensures { λ r. ⌜ r ≡ fieldsAt (now (file .entry)) (first + 12 * k) ⌝ }
+// The fields of the step whose first byte is at a place, within the file.
+pub fn fields_in(file: &[u8], at: u32) -> Fields
+    requires { ⌜ at + 12 ≤ length (now file) ⌝ }
+    ensures { λ r. ⌜ r ≡ fieldsAt (now (file .entry)) at ⌝ }
 {
-    let p = first as usize + 12 * k as usize;
-    let rule = byte_at(file, p);
-    let kind = byte_at(file, p + 1);
-    let left = u16_at(file, p + 2);
-    let right = u16_at(file, p + 4);
+    let p = at as usize;
+    let rule = byte_in(file, p);
+    let kind = byte_in(file, p + 1);
+    let left = u16_in(file, p + 2);
+    let right = u16_in(file, p + 4);
     let premises = [
-        u16_at(file, p + 6),
-        u16_at(file, p + 8),
-        u16_at(file, p + 10),
+        u16_in(file, p + 6),
+        u16_in(file, p + 8),
+        u16_in(file, p + 10),
     ];
     Fields {
         rule,
@@ -150,13 +152,6 @@ pub fn nth_fields(file: &[u8], first: u32, k: u16) -> Fields
         right,
         premises,
     }
-}
-
-// The fields of the step whose first byte is at a place.
-pub fn fields_at(file: &[u8], at: u32) -> Fields
-    ensures { λ r. ⌜ r ≡ fieldsAt (now (file .entry)) at ⌝ }
-{
-    nth_fields(file, at, 0)
 }
 
 // The step with these fields.
@@ -170,20 +165,6 @@ pub fn step_of(fields: Fields) -> Step
         judgement,
         premises,
     }
-}
-
-// Step k, where step 0 starts at a place.
-pub fn nth_step(file: &[u8], first: u32, k: u16) -> Step
-    ensures { λ r. ⌜ r ≡ stepOf (fieldsAt (now (file .entry)) (first + 12 * k)) ⌝ }
-{
-    step_of(nth_fields(file, first, k))
-}
-
-// The step whose first byte is at a place.
-pub fn step_at(file: &[u8], at: u32) -> Step
-    ensures { λ r. ⌜ r ≡ stepOf (fieldsAt (now (file .entry)) at) ⌝ }
-{
-    step_of(fields_at(file, at))
 }
 
 // The action with a number.
@@ -249,23 +230,6 @@ pub fn action_set(file: &[u8], index: &[u16], e: u16) -> ActionEntry
         return action_entry(file, index[i]);
     }
     action_entry(file, 0)
-}
-
-// The state with a number in the body of a listed set.
-pub fn state_in(file: &[u8], span: Span, i: u16) -> u64
-    ensures { λ r. ⌜ r ≡ numberAt 8 (now (file .entry)) (span .at + 8 * i) ⌝ }
-{
-    u64_at(file, span.at as usize + 8 * i as usize)
-}
-
-// The clause with a number in the body of a set of clauses.
-pub fn clause_in(file: &[u8], span: Span, i: u16) -> Clause
-    ensures { λ r. ⌜ r ≡ clauseAt (now (file .entry)) (span .at + 16 * i) ⌝ }
-{
-    let p = span.at as usize + 16 * i as usize;
-    let positive = u64_at(file, p);
-    let negative = u64_at(file, p + 8);
-    Clause { positive, negative }
 }
 
 // The action's number at an index of the body of a listed action set.

@@ -24,7 +24,7 @@ use Rattle.certificate.proofs.EntryLaws.{BasicItems}
 use Rattle.certificate.proofs.KnownLaws.{known-init, known-goal}
 use Rattle.task.specs.Inner.{noAction}
 use Rattle.shapes.specs.Counter.{Leaf, ActionsOf}
-use Rattle.inclusion.specs.Listed.{statesAt, AscendingAt}
+use Rattle.inclusion.specs.Listed.{InOrder, InOrderAt}
 use Rattle.shapes.specs.Flat.{numbersOf, flatLeaf, flatOf}
 use Rattle.shapes.proofs.FlatLaws.{four, Holding, LeafIs, leaf-is}
 use Rattle.inclusion.proofs.FlatHolds.{placeOf, countOf, states-stand, by-leaf}
@@ -59,15 +59,16 @@ abbrev pub ruleFor : ℕ → ℕ → ℕ → Bool
 ruleFor kind = getD ((λ p q. true) ∷ (λ p q. true) ∷ (λ p q. true) ∷ (λ p q. true) ∷ hornRule ∷ []) kind twoCnfRule
 
 module _ (bytes : List ℕ) (p n : ℕ) where
-  states-ascend : (b : Basic) → BasicItems bytes p b → FitsBasic n b → T (eqb (basicKind b) 3)
-      → Ascending 0 (statesAt bytes (placeOf p b) (countOf p b))
+  pub states-ordered : (b : Basic) → BasicItems bytes p b → FitsBasic n b → T (eqb (basicKind b) 3)
+      → InOrder bytes (placeOf p b) (countOf p b)
   unfolding numbersOf viewOfBasic span basicKind
-  states-ascend empty h z t = absurd t
-  states-ascend init h z t = absurd t
-  states-ascend goal h z t = absurd t
-  states-ascend (explicit ss) h z t = subst (Ascending 0) (sym (states-stand bytes (p + 3) ss h)) (z .1)
-  states-ascend (horn cs) h z t = absurd t
-  states-ascend (twoCnf cs) h z t = absurd t
+  states-ordered empty h z t = absurd t
+  states-ordered init h z t = absurd t
+  states-ordered goal h z t = absurd t
+  states-ordered (explicit ss) h z t =
+      record { inside = h .inside; ascend = subst (Ascending 0) (sym (states-stand bytes (p + 3) ss h)) (z .1) }
+  states-ordered (horn cs) h z t = absurd t
+  states-ordered (twoCnf cs) h z t = absurd t
 
   clauses-fit : (rule : ℕ → ℕ → Bool) (cs : List Clause) → Items bytes 16 (places.clauseAt bytes) (p + 3) cs → FitsClauses n rule cs → ClausesFit bytes n rule (p + 3) (length cs)
   unfolding places.clauseAt
@@ -125,11 +126,11 @@ module _ (bytes : List ℕ) (at : Places) (index : List ℕ) (k : Known bytes at
     is : LeafIs index (decoded bytes) flat j x
     is = leaf-is index (decoded bytes) flat m xs h noLeaf j l
 
-    -- the states of a leaf that lists them ascend
-    pub leaf-ascends : AscendingAt bytes (at .init) (at .goal) flat j
-    leaf-ascends =
-        by-leaf bytes at index k flat j x is (λ _ _ kind place count _. T (eqb kind 3) → Ascending 0 (statesAt bytes place count))
-        (states-ascend bytes (statePlace index (x .entry)) (decoded bytes .task .facts))
+    -- the states of a leaf that lists them are in order
+    pub leaf-ordered : InOrderAt bytes (at .init) (at .goal) flat j
+    leaf-ordered =
+        by-leaf bytes at index k flat j x is (λ _ _ kind place count _. T (eqb kind 3) → InOrder bytes place count)
+        (states-ordered bytes (statePlace index (x .entry)) (decoded bytes .task .facts))
 
     -- the clauses of a leaf of kind 4 or 5 are within the file
     pub leaf-inside : 4 ≤ getD flat (4 * j) 0 → getD flat (4 * j + 1) 0 + 16 * getD flat (4 * j + 2) 0 ≤ length bytes

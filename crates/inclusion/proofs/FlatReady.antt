@@ -18,12 +18,12 @@ use Rattle.inclusion.specs.Search.{Readable, Ready}
 use Rattle.clauses.specs.Propagation.{wordsAt, ruleOf, Usable, Tells}
 use Rattle.clauses.specs.Clauses.{OfLeaf, OfLeaves, Refutes}
 use Rattle.shapes.proofs.FlatLaws.{Holding}
-use Rattle.inclusion.proofs.FlatFits.{holding-room, leaf-ascends}
+use Rattle.inclusion.proofs.FlatFits.{holding-room, leaf-ordered}
 use Rattle.inclusion.proofs.FlatGathered.{ruleBy, holding-left, holding-right, left-rule, left-inside, clauses-refuted}
 
 module _ (bytes : List ℕ) (at : Places) (index : List ℕ) (k : Known bytes at index) where
   pub readable : (flat : List ℕ) (m : ℕ) (xs : List Leaf) → Holding index (decoded bytes) flat m xs → Readable bytes (at .init) (at .goal) flat m
-  readable flat m xs h = record { room = holding-room index (decoded bytes) flat m xs h; ascend = leaf-ascends bytes at index k flat m xs h }
+  readable flat m xs h = record { room = holding-room index (decoded bytes) flat m xs h; ordered = leaf-ordered bytes at index k flat m xs h }
 
   -- where some leaf is explicit, the search over the anchor's states can start
   pub ready : (rule a b : ℕ) (left right : List ℕ) (r : Gathered) → Gathers (decoded bytes) index rule a b left right r → r .listed ≡ true

@@ -14,7 +14,7 @@ use Rattle.task.proofs.Tests.{is-true}
 use Rattle.certificate.specs.Views.{numberAt}
 use Rattle.meaning.specs.Sets.{allBelow, someBelow, meets}
 use Rattle.clauses.specs.Clauses.{clauseAt}
-use Rattle.inclusion.specs.Listed.{leafHolds, AscendingAt}
+use Rattle.inclusion.specs.Listed.{leafHolds, InOrderAt}
 use Rattle.inclusion.specs.Search.{Readable}
 use Rattle.meaning.proofs.Below.{all-at, some-of}
 use Rattle.inclusion.proofs.SearchLaws.{is-false}
@@ -78,5 +78,5 @@ leaf-of-clauses bytes init goal (suc (suc (suc (suc k)))) at count s h = refl
 
 -- leaf j may be read
 pub leaf-ready : {bytes : List ℕ} {init goal : ℕ} {leaves : List ℕ} {m : ℕ} → Readable bytes init goal leaves m → (j : ℕ) → j < m
-    → (4 * j + 4 ≤ length leaves) × AscendingAt bytes init goal leaves j
-leaf-ready h j l = (let k = h .room in omega arith, h .ascend j l)
+    → (4 * j + 4 ≤ length leaves) × InOrderAt bytes init goal leaves j
+leaf-ready h j l = (let k = h .room in omega arith, h .ordered j l)

@@ -8,11 +8,14 @@ use native.Mathlib.Omega.{arith}
 use native.Mathlib.Decide.{decLt}
 use mathlib.Core.Bool.{Bool, true, false}
 use mathlib.Core.List.{List}
-use lib.Dec.{T}
+use lib.ListN.{length}
+use lib.Dec.{T, ltb, lt→ltb, ltb→lt}
 use Rattle.task.specs.Reach.{member}
 use Rattle.task.proofs.Tests.{is-true, member-none, member-first, member-rest, member-cases}
 use Rattle.certificate.specs.Views.{numberAt}
 use Rattle.meaning.specs.Writing.{Ascending}
+use Rattle.meaning.specs.Bytes.{number}
+use Rattle.certificate.proofs.ByteLaws.{number-in}
 use Rattle.inclusion.specs.Listed.{statesAt}
 
 -- a test that cannot pass
@@ -67,6 +70,10 @@ module _ (bytes : List ℕ) where
       rw (word-rest at i, word-rest at j)
       (rises (suc (numberAt 8 bytes at)) (at + 8) n i j (a .1) (le-of-suc-le-suc l) (le-of-suc-le-suc h))
 
+  -- a word that is read within the file
+  pub word-in : (at count mid : ℕ) → at + 8 * count ≤ length bytes → mid < count → {x : ℕ} → x ≡ number 8 bytes (at + 8 * mid) → x ≡ word bytes at mid
+  word-in at count mid o l e = e ∙ sym (number-in 8 bytes (at + 8 * mid) (omega arith))
+
   module _ (at count s : ℕ) where
     -- where s is among the states, it is one of those from lo on and before hi
     pub record Bracket (lo hi : ℕ) : Type 0 where
@@ -95,10 +102,10 @@ module _ (bytes : List ℕ) where
           (b .between k lk q .0, elim (decLt k mid) [ yes w ↦ w | no w ↦ absurd (late (omega arith)) ]);
     }
 
-    pub search-found : {x k : ℕ} → x ≡ word bytes at k → k < count → x ≡ s → true ≡ member s (statesAt bytes at count)
+    pub search-found : {x k : ℕ} → x ≡ word bytes at k → k < count → x ≡ s → ltb k count ≡ member s (statesAt bytes at count)
     search-found {k = k} e l q =
-        sym (is-true _ (subst (λ (y : ℕ). T (member y (statesAt bytes at count))) (sym e ∙ q) (listed-at at count k l)))
+        is-true (ltb k count) (lt→ltb k count l) ∙ sym (is-true _ (subst (λ (y : ℕ). T (member y (statesAt bytes at count))) (sym e ∙ q) (listed-at at count k l)))
 
-    pub search-missed : {lo hi : ℕ} → Bracket lo hi → hi ≤ lo → false ≡ member s (statesAt bytes at count)
+    pub search-missed : {lo hi : ℕ} → Bracket lo hi → hi ≤ lo → ltb count count ≡ member s (statesAt bytes at count)
     search-missed b l =
-        sym (is-false _ (λ m. let w = listed-in s at count m in let v = b .between (w .0) (w .1) (w .2) in omega arith))
+        is-false (ltb count count) (λ t. let w = ltb→lt count count t in omega arith) ∙ sym (is-false _ (λ m. let w = listed-in s at count m in let v = b .between (w .0) (w .1) (w .2) in omega arith))

@@ -1,29 +1,35 @@
 -- One state and one action that make a statement untrue, as the code tests them and as `Shows` puts them.
 -- Assumes nothing.
-use mathlib.Core.Path.{_≡_, refl, ap, subst, sym}
+use mathlib.Core.Path.{_≡_, refl, ap, subst, sym, _∙_}
 use mathlib.Core.Logic.{_↔_, inl, inr}
 use Prim.Native.Nat.{ℕ, zero, suc, _+_, _*_, _<_}
 use native.Mathlib.Omega.{arith}
 use mathlib.Core.Bool.{Bool, true, false, not, _&&_, _||_}
 use mathlib.Core.List.{List, []}
 use lib.ListN.{getD}
-use lib.Dec.{T, eqb, eqb→eq}
+use lib.Dec.{T, eqb, ltb, eqb→eq, lt→ltb}
 use Rattle.task.specs.declared.Action.{Action}
 use Rattle.task.specs.Task.{applies, after}
 use Rattle.task.specs.Reach.{member}
-use Rattle.task.proofs.Tests.{and-left, and-right, and-both, or-cases, or-right, same, member-none, member-first, member-cases}
+use Rattle.task.proofs.Tests.{and-left, and-right, and-both, or-cases, or-right, same, holds, is-true, never, member-none, member-first, member-cases}
 use Rattle.meaning.specs.Sets.{allBelow, someBelow}
 use Rattle.shapes.specs.Counter.{seen}
-use Rattle.inclusion.specs.Listed.{leafHolds, leafStates, leafHoldsAt, leafStatesAt, Shows}
-use Rattle.inclusion.specs.Search.{spared, holdsAt, showsIn}
+use Rattle.inclusion.specs.declared.listed.Rows.{Rows}
+use Rattle.inclusion.specs.Listed.{statesAt, InOrder, leafHolds, leafStates, leafHoldsAt, leafStatesAt, Shows}
+use Rattle.inclusion.specs.Search.{ListsAfter, RowsAfter, spared, holdsAt, showsIn, Readable}
 use Rattle.meaning.proofs.Below.{all-at, all-of, some-at, some-of}
-use Rattle.inclusion.proofs.SearchLaws.{word, listed-at, listed-in}
+use Rattle.inclusion.proofs.SearchLaws.{is-false, word, listed-at, listed-in}
 
 -- ---- three tests, one after the other
 
 second-fails : (p : Bool) {q : Bool} (n : Bool) → q ≡ false → false ≡ (p && q && n)
 second-fails true n e = rw e
 second-fails false n e = refl
+
+third-fails : (p q : Bool) {n : Bool} → n ≡ false → (p && q && n) ≡ false
+third-fails true true e = e
+third-fails true false e = refl
+third-fails false q e = refl
 
 module _ (bytes : List ℕ) (init goal : ℕ) (a : Action) (left : List ℕ) (m : ℕ) (right : List ℕ) (r but s : ℕ) where
   -- every left leaf but one holds, no right leaf does; t is the state after the action
@@ -44,6 +50,29 @@ module _ (bytes : List ℕ) (init goal : ℕ) (a : Action) (left : List ℕ) (m 
   pub shows-rest : {t : ℕ} → t ≡ after a s → applies a s ≡ true → Lefts t ≡ true → Rights t ≡ showsIn bytes init goal a left m right r but s
   unfolding showsIn
   shows-rest {t} e p h = rw (p, ← e, h)
+
+  -- where the first right leaf lists the state after the action, nothing is shown
+  shows-held : ListsAfter right r → T (member (after a s) (statesAt bytes (getD right 1 0) (getD right 2 0))) → showsIn bytes init goal a left m right r but s ≡ false
+  unfolding showsIn holdsAt leafHolds
+  shows-held (l, k, f) t =
+      third-fails (applies a s) (Lefts (after a s)) (is-false (Rights (after a s)) (λ h.
+      let n = all-at r (λ j. not (holdsAt bytes init goal s (after a s) right j)) h 0 l in
+      never (member (after a s) (statesAt bytes (getD right 1 0) (getD right 2 0))) t (rw (k, f) at n)))
+
+-- the states of the first right leaf are in order, and one among them is not shown
+module _ (bytes : List ℕ) (init goal : ℕ) (right : List ℕ) (r : ℕ) (p : Rows) where
+  pub rows-ordered : Readable bytes init goal right r → RowsAfter right r p → InOrder bytes (p .at) (p .count)
+  unfolding statesAt
+  rows-ordered h (inl e) = rw e (record { inside = omega arith; ascend = tt })
+  rows-ordered h (inr (l, e)) = rw e (h .ordered 0 (l .0) (same (l .1)))
+
+  pub rows-held : (a : Action) (left : List ℕ) (m but s k : ℕ) {t : ℕ} → RowsAfter right r p → k < p .count
+      → ltb k (p .count) ≡ member t (statesAt bytes (p .at) (p .count)) → t ≡ after a s
+      → showsIn bytes init goal a left m right r but s ≡ false
+  rows-held a left m but s k (inl e) l q w = let z : p .count ≡ 0 = ap (λ (x : Rows). x .count) e in absurd (omega arith)
+  rows-held a left m but s k (inr (h, e)) l q w =
+      shows-held bytes init goal a left m right r but s h
+      (rw (← w) (rw e at (holds (sym q ∙ is-true (ltb k (p .count)) (lt→ltb k (p .count) l)))))
 
 -- ---- leaves
 

@@ -1,10 +1,10 @@
 -- Leaves of kinds 0 to 5 as the code holds them, and what makes a statement over listed states untrue.
 -- Only the code's inner promises speak of this.
 -- Assumes nothing.
-use Prim.Native.Nat.{ℕ, zero, suc, _+_, _*_, _<_}
+use Prim.Native.Nat.{ℕ, zero, suc, _+_, _*_, _≤_, _<_}
 use mathlib.Core.Bool.{Bool, false, not}
 use mathlib.Core.List.{List, [], _∷_}
-use lib.ListN.{getD}
+use lib.ListN.{length, getD}
 use lib.Dec.{T, eqb}
 use Rattle.task.specs.declared.Action.{Action}
 use Rattle.task.specs.Facts.{allOn}
@@ -20,6 +20,11 @@ use Rattle.clauses.specs.Clauses.{clauseAt}
 unfoldable pub statesAt : List ℕ → ℕ → ℕ → List ℕ
 statesAt bytes at zero = []
 statesAt bytes at (suc k) = numberAt 8 bytes at ∷ statesAt bytes (at + 8) k
+
+-- they stand within the file, and ascend
+pub record InOrder (bytes : List ℕ) (at count : ℕ) : Type 0 where
+  pub inside : at + 8 * count ≤ length bytes
+  pub ascend : Ascending 0 (statesAt bytes at count)
 
 module _ (bytes : List ℕ) (init goal : ℕ) where
   -- a leaf holds state s: none, the start, the forbidden states, listed states, and states that meet each clause
@@ -40,10 +45,10 @@ module _ (bytes : List ℕ) (init goal : ℕ) where
   unfoldable pub leafStatesAt : List ℕ → ℕ → List ℕ
   leafStatesAt leaves j = leafStates (getD leaves (4 * j) 0) (getD leaves (4 * j + 1) 0) (getD leaves (4 * j + 2) 0)
 
-  -- a listed leaf's states ascend
-  abbrev pub AscendingAt : List ℕ → ℕ → Type 0
-  AscendingAt leaves j =
-      T (eqb (getD leaves (4 * j) 0) 3) → Ascending 0 (statesAt bytes (getD leaves (4 * j + 1) 0) (getD leaves (4 * j + 2) 0))
+  -- a listed leaf's states are in order
+  abbrev pub InOrderAt : List ℕ → ℕ → Type 0
+  InOrderAt leaves j =
+      T (eqb (getD leaves (4 * j) 0) 3) → InOrder bytes (getD leaves (4 * j + 1) 0) (getD leaves (4 * j + 2) 0)
 
   -- the action applies in a state of the anchor, where each of m left leaves holds and none of r right leaves
   pub record Shows (a : Action) (left : List ℕ) (m : ℕ) (right : List ℕ) (r anchor : ℕ) : Type 0 where

@@ -1,44 +1,74 @@
 // Statements over listed states: whether an action in a listed state makes a statement untrue.
 use certificate::bytes::u64_at;
+use certificate::bytes::u64_in;
 use task::Action;
 use task::after;
 use task::all_on;
 use task::applies;
 ghost use mathlib.Core.Path.{_≡_};
 ghost use mathlib.Core.Logic.{_↔_};
-ghost use Prim.Native.Nat.{_+_, _*_, _≤_};
+ghost use Prim.Native.Nat.{_+_, _*_, _≤_, _<_};
 ghost use mathlib.Core.Bool.{not, _||_};
 ghost use lib.ListN.{length};
-ghost use lib.Dec.{T, eqb};
+ghost use lib.Dec.{T, eqb, ltb};
 ghost use Rattle.task.specs.Reach.{member};
 ghost use Rattle.certificate.specs.Views.{numberAt};
-ghost use Rattle.meaning.specs.Writing.{Ascending};
 ghost use Rattle.meaning.specs.Sets.{allBelow, someBelow, meets};
 ghost use Rattle.clauses.specs.Clauses.{clauseAt};
-ghost use Rattle.inclusion.specs.Listed.{statesAt, leafHolds, AscendingAt, Shows};
-ghost use Rattle.inclusion.specs.Search.{holdsAt, showsIn, spared, Readable, Ready};
+ghost use Rattle.inclusion.specs.Listed.{statesAt, InOrder, leafHolds, InOrderAt, Shows};
+ghost use Rattle.inclusion.specs.Search.{RowsAfter, holdsAt, showsIn, spared, Readable, Ready};
 
-// Whether a state is among `count` ascending states from a place.
-fn among(file: &[u8], at: u32, count: u32, s: u64) -> bool
-    requires { ⌜ Ascending 0 (statesAt (now file) at count) ⌝ }
-    ensures { λ b. ⌜ b ≡ member s (statesAt (now (file .entry)) at count) ⌝ }
+// The guess, where it is one of so many, else the one in the middle.
+fn within(guess: usize, all: usize) -> usize
+    ensures { λ r. ⌜ (0 < all → r < all) ⌝ }
+{
+    if guess < all { guess } else { all >> 1 }
+}
+
+// Where a state stands among `count` ascending states from a place, and `count` where it does not. It is looked for from a
+// guess in growing steps, and then by halves: the states after an action often stand as those before it do.
+fn find(file: &[u8], at: u32, count: u32, guess: usize, s: u64) -> usize
+    requires { ⌜ InOrder (now file) at count ⌝ }
+    ensures { λ k. ⌜ ltb k count ≡ member s (statesAt (now (file .entry)) at count) ⌝ }
 {
     let first = at as usize;
+    let all = count as usize;
     let mut lo: usize = 0;
-    let mut hi = count as usize;
+    let mut hi = all;
+    let mut mid = within(guess, all);
+    let mut step: usize = 1;
     while lo < hi {
-        let mid = lo + ((hi - lo) >> 1);
-        let x = u64_at(file, first + 8 * mid);
+        let x = u64_in(file, first + 8 * mid);
         if x == s {
-            return true;
+            return mid;
         }
         if x < s {
             lo = mid + 1;
+            mid = mid + step;
+            if mid < hi {
+                step = step + step;
+            } else {
+                mid = lo + ((hi - lo) >> 1);
+            }
         } else {
             hi = mid;
+            if step <= mid - lo {
+                mid = mid - step;
+                step = step + step;
+            } else {
+                mid = lo + ((hi - lo) >> 1);
+            }
         }
     }
-    false
+    all
+}
+
+// Whether a state is among them.
+fn among(file: &[u8], at: u32, count: u32, s: u64) -> bool
+    requires { ⌜ InOrder (now file) at count ⌝ }
+    ensures { λ b. ⌜ b ≡ member s (statesAt (now (file .entry)) at count) ⌝ }
+{
+    find(file, at, count, 0, s) < count as usize
 }
 
 // Whether a state meets a clause.
@@ -67,7 +97,7 @@ fn meets_all(file: &[u8], at: u32, count: u32, s: u64) -> bool
 
 // Whether a leaf of kinds 0 to 5 holds a state.
 pub fn leaf_holds(file: &[u8], init: u64, goal: u64, kind: u32, at: u32, count: u32, s: u64) -> bool
-    requires { ⌜ (T (eqb kind 3) → Ascending 0 (statesAt (now file) at count)) ⌝ }
+    requires { ⌜ (T (eqb kind 3) → InOrder (now file) at count) ⌝ }
     ensures { λ b. ⌜ b ≡ leafHolds (now (file .entry)) init goal kind at count s ⌝ }
 {
     match kind {
@@ -82,7 +112,7 @@ pub fn leaf_holds(file: &[u8], init: u64, goal: u64, kind: u32, at: u32, count: 
 // Whether leaf j of a flat array holds s, or t where it is asked about the state after the action.
 fn holds_at(file: &[u8], init: u64, goal: u64, leaves: &[u32], j: usize, s: u64, t: u64) -> bool
     requires { ⌜ 4 * j + 4 ≤ length (now leaves) ⌝ }
-    requires { ⌜ AscendingAt (now file) init goal (now leaves) j ⌝ }
+    requires { ⌜ InOrderAt (now file) init goal (now leaves) j ⌝ }
     ensures { λ b. ⌜ b ≡ holdsAt (now (file .entry)) init goal s t (now (leaves .entry)) j ⌝ }
 {
     let i = 4 * j;
@@ -158,7 +188,30 @@ fn shows_in(
     none_holds(file, init, goal, right, r, s, t)
 }
 
-// Whether one of `count` states from a place does.
+// Listed states: where the first of them stands, and how many there are.
+pub struct Rows {
+    pub at: u32,
+    pub count: u32,
+}
+
+// The states of the first right leaf, where it lists them and is asked about the state after the action; else none.
+fn rows_after(right: &[u32], r: usize) -> Rows
+    requires { ⌜ 4 * r ≤ length (now right) ⌝ }
+    ensures { λ p. ⌜ RowsAfter (now (right .entry)) r p ⌝ }
+{
+    if r == 0 {
+        return Rows { at: 0, count: 0 };
+    }
+    if (right[0] == 3) & (right[3] == 1) {
+        return Rows {
+            at: right[1],
+            count: right[2],
+        };
+    }
+    Rows { at: 0, count: 0 }
+}
+
+// Whether one of `count` states from a place does. One from which the action leads into the first right leaf does not.
 fn one_shows(
     file: &[u8],
     init: u64,
@@ -174,13 +227,28 @@ fn one_shows(
 ) -> bool
     requires { ⌜ Readable (now file) init goal (now left) m ⌝ }
     requires { ⌜ Readable (now file) init goal (now right) r ⌝ }
+    requires { ⌜ at + 8 * count ≤ length (now file) ⌝ }
     ensures { λ b. ⌜ b ≡ someBelow count (λ i. showsIn (now (file .entry)) init goal a (now (left .entry)) m (now (right .entry)) r but (numberAt 8 (now (file .entry)) (at + 8 * i))) ⌝ }
 {
     let first = at as usize;
     let states = count as usize;
+    let rows = rows_after(right, r);
+    let place = rows.at;
+    let many = rows.count;
+    let mut near: usize = 0;
     let mut i: usize = 0;
     while i < states {
-        let s = u64_at(file, first + 8 * i);
+        let s = u64_in(file, first + 8 * i);
+        if !applies(a, s) {
+            i += 1;
+            continue;
+        }
+        let k = find(file, place, many, near, after(a, s));
+        if k < many as usize {
+            near = k;
+            i += 1;
+            continue;
+        }
         if shows_in(file, init, goal, left, m, right, r, but, a, s) {
             return true;
         }

@@ -1,7 +1,7 @@
 -- An entry of kinds 0 to 5 as the code asks it, by the three numbers of its view.
 -- Assumes nothing.
-use mathlib.Core.Path.{_≡_, refl, sym, ap, subst, _∙_}
-use Prim.Native.Nat.{ℕ, _+_}
+use mathlib.Core.Path.{_≡_, refl, ap, _∙_}
+use Prim.Native.Nat.{ℕ}
 use mathlib.Core.Bool.{false}
 use mathlib.Core.List.{List, [], _∷_}
 use lib.ListN.{getD}
@@ -9,17 +9,16 @@ use lib.Dec.{T, eqb, leb}
 use Rattle.certificate.specs.declared.Places.{Places}
 use Rattle.certificate.specs.declared.StateEntry.{StateEntry}
 use Rattle.meaning.specs.File.{Basic, empty, init, goal, explicit, horn, twoCnf, basic, stateSetAt, basicKind, stateKind}
-use Rattle.certificate.specs.Views.{viewOfBasic, viewOf, span}
+use Rattle.certificate.specs.Views.{viewOfBasic, viewOf}
 use Rattle.certificate.specs.Known.{Known, decoded, statePlace}
-use Rattle.meaning.specs.Writing.{Ascending, FitsBasic}
-use Rattle.certificate.proofs.EntryLaws.{BasicItems}
 use Rattle.meaning.specs.Sets.{inSet}
 use Rattle.shapes.specs.Counter.{Leaf}
 use Rattle.shapes.specs.Flat.{numbersOf, flag}
-use Rattle.inclusion.specs.Listed.{statesAt, leafHolds}
+use Rattle.inclusion.specs.Listed.{InOrder, leafHolds}
 use Rattle.meaning.specs.Shapes.{kindAt, isBasic}
 use Rattle.shapes.proofs.FlatLaws.{numberOf, viewAt, LeafIs}
-use Rattle.inclusion.proofs.FlatHolds.{placeOf, countOf, states-stand, by-leaf, numbers-hold}
+use Rattle.inclusion.proofs.FlatHolds.{by-leaf, numbers-hold}
+use Rattle.inclusion.proofs.FlatFits.{states-ordered}
 
 basic-number : (p : ℕ) (b : Basic) → (numberOf 0 (viewOfBasic p b) ≡ basicKind b) × T (leb (basicKind b) 5)
 unfolding numbersOf viewOfBasic basicKind
@@ -29,16 +28,6 @@ basic-number p goal = (refl, tt)
 basic-number p (explicit ss) = (refl, tt)
 basic-number p (horn cs) = (refl, tt)
 basic-number p (twoCnf cs) = (refl, tt)
-
--- listed states ascend
-basic-ascends : (bytes : List ℕ) (n p : ℕ) (b : Basic) → BasicItems bytes p b → FitsBasic n b → T (eqb (basicKind b) 3) → Ascending 0 (statesAt bytes (placeOf p b) (countOf p b))
-unfolding numbersOf viewOfBasic span basicKind
-basic-ascends bytes n p empty i h t = absurd t
-basic-ascends bytes n p init i h t = absurd t
-basic-ascends bytes n p goal i h t = absurd t
-basic-ascends bytes n p (explicit ss) i h t = subst (Ascending 0) (sym (states-stand bytes (p + 3) ss i)) (h .1)
-basic-ascends bytes n p (horn cs) i h t = absurd t
-basic-ascends bytes n p (twoCnf cs) i h t = absurd t
 
 module _ (bytes : List ℕ) (at : Places) (index : List ℕ) (k : Known bytes at index) (e : ℕ) (v : StateEntry)
     (q : v ≡ viewOf (statePlace index e) (stateSetAt (decoded bytes) e)) (ns : List ℕ) (n : ns ≡ numbersOf v)
@@ -63,10 +52,10 @@ module _ (bytes : List ℕ) (at : Places) (index : List ℕ) (k : Known bytes at
     basic = rw z (basic-number (statePlace index e) b .1);
   }
 
-  pub leaf-ascends : T (eqb (getD ns 0 0) 3) → Ascending 0 (statesAt bytes (getD ns 1 0) (getD ns 2 0))
-  leaf-ascends =
-      by-leaf bytes at index k flat 0 leaf leaf-is (λ start forbidden kind place count X. T (eqb kind 3) → Ascending 0 (statesAt bytes place count))
-      (λ y i h. basic-ascends bytes (decoded bytes .task .facts) (statePlace index e) y i h)
+  pub leaf-ordered : T (eqb (getD ns 0 0) 3) → InOrder bytes (getD ns 1 0) (getD ns 2 0)
+  leaf-ordered =
+      by-leaf bytes at index k flat 0 leaf leaf-is (λ start forbidden kind place count X. T (eqb kind 3) → InOrder bytes place count)
+      (states-ordered bytes (statePlace index e) (decoded bytes .task .facts))
 
   pub leaf-in : (s : ℕ) → leafHolds bytes (at .init) (at .goal) (getD ns 0 0) (getD ns 1 0) (getD ns 2 0) s ≡ inSet (decoded bytes) e s
   leaf-in = numbers-hold bytes at index k flat 0 leaf leaf-is

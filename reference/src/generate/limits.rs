@@ -165,12 +165,12 @@ pub fn workload(random: &mut Random, number: usize) -> Draft {
         1 => listed_cube(random, 12, MAX_ACTIONS),
         2 => large_clauses(random, Method::Horn),
         3 => large_clauses(random, Method::TwoCnf),
-        _ => many_rules(random),
+        _ => many_rules(random, MAX_STATE_SETS, MAX_STEPS),
     }
 }
 
 /// All states over `free` of 64 facts, the others fixed, in the sample's form.
-fn listed_cube(random: &mut Random, free: usize, actions: usize) -> Draft {
+pub fn listed_cube(random: &mut Random, free: usize, actions: usize) -> Draft {
     let mut cube = 0u64;
     while cube.count_ones() < free as u32 {
         cube |= random.bit(!cube);
@@ -244,7 +244,7 @@ fn large_clauses(random: &mut Random, method: Method) -> Draft {
     Draft::of(&b.file)
 }
 
-fn shuffle<T>(random: &mut Random, list: &mut [T]) {
+pub fn shuffle<T>(random: &mut Random, list: &mut [T]) {
     for k in (1..list.len()).rev() {
         list.swap(k, random.below(k + 1));
     }
@@ -258,7 +258,7 @@ fn moving(random: &mut Random, group: &[u64]) -> Action {
 }
 
 /// From one fact of the group to the next, or down from some fact on.
-fn climbing(random: &mut Random, group: &[u64]) -> Action {
+pub fn climbing(random: &mut Random, group: &[u64]) -> Action {
     let at = random.between(1, group.len() - 1);
     if random.chance(60) {
         return Action { pre: group[at - 1], add: group[at], del: 0 };
@@ -266,14 +266,14 @@ fn climbing(random: &mut Random, group: &[u64]) -> Action {
     Action { pre: 0, add: 0, del: group[at..].iter().sum() }
 }
 
-/// The sample's argument, then derivation rules over unions and intersections until
-/// entries and steps are used up.
-fn many_rules(random: &mut Random) -> Draft {
+/// The sample's argument, then derivation rules over unions until there are so many entries,
+/// at least 10, and so many steps, at least as many as entries.
+pub fn many_rules(random: &mut Random, entries: usize, steps: usize) -> Draft {
     let mut d = sample();
     let ending = d.steps.pop();
     let clause = DraftSet::Horn(vec![Clause { positive: 0, negative: 3 }]);
     d.state_sets.push(clause);
-    while d.state_sets.len() + 2 <= MAX_STATE_SETS {
+    while d.state_sets.len() + 2 <= entries {
         let pick = random.pick(&[0, 1, 2, 3]);
         let last = d.state_sets.len() as u16 - 1;
         d.state_sets.push(DraftSet::Union(last, pick));
@@ -288,7 +288,7 @@ fn many_rules(random: &mut Random) -> Draft {
         .collect();
     let first = d.steps.len() as u16;
     d.steps.extend(ups.iter().map(|(s, e, rule)| step(*rule, 1, &[*s, *e], &[])));
-    while d.steps.len() + 1 < MAX_STEPS {
+    while d.steps.len() + 1 < steps {
         let k = random.below(d.steps.len() - first as usize) as u16 + first;
         let [low, middle] = d.steps[k as usize].entries;
         let next = ups.iter().position(|(s, _, _)| *s == middle);

@@ -4,10 +4,12 @@
 pub mod applications;
 pub mod builder;
 pub mod certificates;
+pub mod growth;
 pub mod limits;
 pub mod mutate;
 pub mod random;
 pub mod tasks;
+pub mod worst;
 
 use crate::draft::Draft;
 use crate::generate::builder::Builder;

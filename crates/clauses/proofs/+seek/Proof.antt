@@ -95,13 +95,12 @@ loop-again t c =
     let a = c .before .before .before .before .before .before .before .before .before .before .before .before .before .before .before .before .before .before .args in
     let y = holds (c .if3 .taken) in
     let e = c .before .same .ensures (and-right (c .before .before .before .before .before .before .is-before .result) (c .before .same .result) y) in
-    let same = ap (pulledBy _) (sym (c .before .before .before .clause-at .ensures)) ∙ sym (c .before .before .pulled .ensures) ∙ e ∙ c .before .before .before .clause-at .ensures in
-    (
+    let same = ap (pulledBy _) (sym (c .before .before .before .clause-at .ensures)) ∙ sym (c .before .before .pulled .ensures) ∙ e ∙ c .before .before .before .clause-at .ensures in (
       search needs,
       missing-met _ _ (family _ _ _ _ _ _) _ _ (c .before .before .before .before .before .loop .inv .1)
-      (subst (LeftOf (a .file .now) (a .left .now) (a .k)) (sym same)
-      (before-left (a .file .now) (a .k .init) (a .k .goal) (a .k .action) (a .left .now) (a .k .m) _ _ _ (c .before .before .before .before .before .loop .i)
-      (c .before .before .before .before .before .before .is-before .ensures (and-left (c .before .before .before .before .before .before .is-before .result) (c .before .same .result) y)) (search needs))),
+          (subst (LeftOf (a .file .now) (a .left .now) (a .k)) (sym same)
+          (before-left (a .file .now) (a .k .init) (a .k .goal) (a .k .action) (a .left .now) (a .k .m) _ _ _ (c .before .before .before .before .before .loop .i)
+          (c .before .before .before .before .before .before .is-before .ensures (and-left (c .before .before .before .before .before .before .is-before .result) (c .before .same .result) y)) (search needs))),
     )
 
 assume-requires : (t : ℕ) → seek-lts.Need-assume-requires (calls t) (seek-at t) seek′.Post Inv-loop μ-loop

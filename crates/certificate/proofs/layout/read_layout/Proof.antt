@@ -28,62 +28,57 @@ returns-3 c =
 
 after-task-requires : tie.Need-after-task-requires
 after-task-requires c κs =
-    let a = c .before .before .before .before .before .before .before .before .before .args in
-    let if1! = c .before .before .before .before .before .before .before .if1 in
+    let a = c .before .before .before .before .before .before .before .before .args in
+    let if1! = c .before .before .before .before .before .before .if1 in
     length-most (a .file .now) (if1! .left)
 
-add-t23 : tie.Need-add-t23
-add-t23 c =
-    let a = c .before .before .before .before .before .before .before .before .before .before .before .before .before .before .before .before .before .before .args in
-    let if1! = c .before .before .before .before .before .before .before .before .before .before .before .before .before .before .before .before .if1 in
-    let byte-at! = c .before .before .before .before .before .before .before .before .before .before .byte-at in
-    let u16-at! = c .before .before .before .before .before .before .before .before .before .u16-at in
-    let rest2! = c .before .before .before .before .before .before .rest2 in
-    let after-task! = c .before .before .before .before .before .before .before .before .after-task in
+add-t22 : tie.Need-add-t22
+add-t22 c =
+    let a = c .before .before .before .before .before .before .before .before .before .before .before .before .before .before .before .before .args in
+    let if1! = c .before .before .before .before .before .before .before .before .before .before .before .before .before .before .if1 in
+    let head! = c .before .before .before .before .before .before .before .before .task-head in
+    let rest2! = c .before .before .before .before .before .rest2 in
+    let after-task! = c .before .before .before .before .before .before .before .after-task in
     let h = length-most (a .file .now) (if1! .left) in
-    let e = rest-ends (a .file .now) (byte-at! .result) (u16-at! .result) (rest2! .given .1) (after-task! .ensures) in
+    let e = rest-ends (a .file .now) (head! .result .facts) (head! .result .actions) (rest2! .given .1) (after-task! .ensures) in
     search needs
 
-add-t32 : tie.Need-add-t32
-add-t32 c =
-    let a = c .before .before .before .before .before .before .before .before .before .before .before .before .before .before .before .before .before .before .args in
-    let if1! = c .before .before .before .before .before .before .before .before .before .before .before .before .before .before .before .before .if1 in
-    let byte-at! = c .before .before .before .before .before .before .before .before .before .before .byte-at in
-    let u16-at! = c .before .before .before .before .before .before .before .before .before .u16-at in
-    let rest2! = c .before .before .before .before .before .before .rest2 in
-    let after-task! = c .before .before .before .before .before .before .before .before .after-task in
+add-t29 : tie.Need-add-t29
+add-t29 c =
+    let a = c .before .before .before .before .before .before .before .before .before .before .before .before .before .before .before .before .args in
+    let if1! = c .before .before .before .before .before .before .before .before .before .before .before .before .before .before .if1 in
+    let head! = c .before .before .before .before .before .before .before .before .task-head in
+    let rest2! = c .before .before .before .before .before .rest2 in
+    let after-task! = c .before .before .before .before .before .before .before .after-task in
     let h = length-most (a .file .now) (if1! .left) in
-    let e = rest-ends (a .file .now) (byte-at! .result) (u16-at! .result) (rest2! .given .1) (after-task! .ensures) in
+    let e = rest-ends (a .file .now) (head! .result .facts) (head! .result .actions) (rest2! .given .1) (after-task! .ensures) in
     search needs
 
 returns-4 : tie.Need-returns-4
 returns-4 c =
-    let a = c .before .before .before .before .before .before .before .before .before .before .before .before .before .args in
-    let if1! = c .before .before .before .before .before .before .before .before .before .before .before .if1 in
-    let u32-at! = c .before .before .before .before .before .before .before .before .before .before .u32-at in
-    let if2! = c .before .before .before .before .before .before .before .before .before .if2 in
-    let enum-told! = c .before .before .before .before .before .before .enum-told in
-    let task! = c .before .before .before .before .before .before .before .before .task in
-    let byte-at! = c .before .before .before .before .before .byte-at in
-    let u16-at! = c .before .before .before .before .u16-at in
-    rest-bad (a .file .now) (if1! .left) (u32-at! .ensures) (if2! .left) (enum-told! .given .1) (task! .ensures) (byte-at! .ensures) (u16-at! .ensures)
+    let a = c .before .before .before .before .before .before .before .before .before .before .before .before .args in
+    let if1! = c .before .before .before .before .before .before .before .before .before .before .if1 in
+    let u32-at! = c .before .before .before .before .before .before .before .before .before .u32-at in
+    let if2! = c .before .before .before .before .before .before .before .before .if2 in
+    let enum-told! = c .before .before .before .before .before .enum-told in
+    let task! = c .before .before .before .before .before .before .before .task in
+    let head! = c .before .before .before .before .task-head in
+    rest-bad (a .file .now) (if1! .left) (u32-at! .ensures) (if2! .left) (enum-told! .given .1) (task! .ensures) (λ i. head! .ensures i .facts) (λ i. head! .ensures i .actions)
     (c .before .rest .given .1) (c .before .before .before .after-task .ensures)
 
 returns-5 : tie.Need-returns-5
 returns-5 c =
-    let a = c .before .before .before .before .before .before .before .before .before .before .before .before .before .before .before .before .before .before .args in
-    let if1! = c .before .before .before .before .before .before .before .before .before .before .before .before .before .before .before .before .if1 in
-    let u32-at! = c .before .before .before .before .before .before .before .before .before .before .before .before .before .before .before .u32-at in
-    let if2! = c .before .before .before .before .before .before .before .before .before .before .before .before .before .before .if2 in
-    let enum-told! = c .before .before .before .before .before .before .before .before .before .before .before .enum-told in
-    let task! = c .before .before .before .before .before .before .before .before .before .before .before .before .before .task in
-    let byte-at! = c .before .before .before .before .before .before .before .before .before .before .byte-at in
-    let u16-at! = c .before .before .before .before .before .before .before .before .before .u16-at in
-    let u64-at! = c .before .before .before .before .u64-at in
-    let rest2! = c .before .before .before .before .before .before .rest2 in
-    let after-task! = c .before .before .before .before .before .before .before .before .after-task in
-    lawful (a .file .now) (if1! .left) (u32-at! .ensures) (if2! .left) (enum-told! .given .1) (task! .ensures) (byte-at! .ensures) (u16-at! .ensures)
-    (u64-at! .ensures) (c .before .before .before .u64-at2 .ensures) (c .before .before .u16-at2 .ensures) (c .before .u16-at3 .ensures) (c .u16-at4 .ensures)
+    let a = c .before .before .before .before .before .before .before .before .before .before .before .before .before .before .before .before .args in
+    let if1! = c .before .before .before .before .before .before .before .before .before .before .before .before .before .before .if1 in
+    let u32-at! = c .before .before .before .before .before .before .before .before .before .before .before .before .before .u32-at in
+    let if2! = c .before .before .before .before .before .before .before .before .before .before .before .before .if2 in
+    let enum-told! = c .before .before .before .before .before .before .before .before .before .enum-told in
+    let task! = c .before .before .before .before .before .before .before .before .before .before .before .task in
+    let head! = c .before .before .before .before .before .before .before .before .task-head in
+    let rest2! = c .before .before .before .before .before .rest2 in
+    let after-task! = c .before .before .before .before .before .before .before .after-task in
+    lawful (a .file .now) (if1! .left) (u32-at! .ensures) (if2! .left) (enum-told! .given .1) (task! .ensures) (λ i. head! .ensures i .facts) (λ i. head! .ensures i .actions)
+    (λ i. head! .ensures i .init) (λ i. head! .ensures i .goal) (c .before .before .u16-at .ensures) (c .before .u16-at2 .ensures) (c .u16-at3 .ensures)
     (rest2! .given .1) (after-task! .ensures)
 
 pub read-layout-spec : {M : Type 1} → statement M
@@ -100,15 +95,12 @@ read-layout-spec =
     returns-3
     (λ c. search needs)
     (λ c κs. search needs)
-    (λ c κs. search needs)
     after-task-requires
     (λ c. search needs)
     (λ c. search needs)
     (λ c. search needs)
     (λ c. search needs)
     (λ c. search needs)
-    (λ c κs. search needs)
-    (λ c κs. search needs)
     (λ c. search needs)
     (λ c κs. search needs)
     (λ c. search needs)
@@ -116,7 +108,7 @@ read-layout-spec =
     (λ c. search needs)
     (λ c κs. search needs)
     (λ c. search needs)
-    add-t23
-    add-t32
+    add-t22
+    add-t29
     returns-4
     returns-5)

@@ -2,8 +2,14 @@
 -- Assumes nothing.
 use Rattle.inclusion.proofs.ShownLaws.{shown-none, shown-one, shown-some}
 use borrow.Author.Needs.{needs}
+use Rattle.task.proofs.Tests.{same}
 use Rattle.inclusion.proofs.listed.shown.Statement.{statement}
 use Rattle.inclusion.proofs.listed.shown.Tie as tie
+
+one-shows-requires : tie.Need-one-shows-requires
+one-shows-requires c κs =
+    let s = c .before .before .before .before .before .before .before .before in
+    (s .pre .lefts, (s .pre .rights, s .pre .lefts .ordered (s .args .anchor) (s .pre .anchored) (same (c .before .before .match .keys2)) .inside))
 
 returns : tie.Need-returns
 returns c = shown-one _ _ _ _ _ _ _ _ _ (c .before .before .before .spared .ensures) (c .before .match .keys1) (c .shows-in .ensures)
@@ -30,7 +36,7 @@ shown-spec =
     (λ c. search needs)
     (λ c. search needs)
     (λ c. search needs)
-    (λ c κs. search needs)
+    one-shows-requires
     returns
     returns-2
     returns-3)

@@ -21,7 +21,7 @@ use Rattle.certificate.proofs.SeenLaws.{StateSeen}
 use Rattle.meaning.specs.Sets.{stateNode, inSet, inActions}
 use Rattle.meaning.specs.Question.{hasProgression}
 use Rattle.verifier.proofs.AskLaws.{Clear, leafTags, seen, leaf-seen, clear-at, in-at, fits-at}
-use Rattle.verifier.proofs.AskedLeaves.{leaf-ascends, leaf-in}
+use Rattle.verifier.proofs.AskedLeaves.{leaf-ordered, leaf-in}
 use Rattle.verifier.proofs.TriedLaws.{NoneOf, none-first, none-more, none-leads, one-leads, Tried, tried}
 use Rattle.verifier.proofs.ask.member.Reads as member
 use Rattle.verifier.proofs.ask.member.Kinds as member-kinds
@@ -138,7 +138,7 @@ module _ (t : ℕ) where
   leaf-requires c κs =
       let v = c .before .before in
       let b = leaf v (c .before .match .keys6) in
-      leaf-ascends _ _ _ (v .before .before .pre .1 .0) (e v) _ (v .state-set .ensures) _ (c .numbers .ensures) (b .0) (b .1)
+      leaf-ordered _ _ _ (v .before .before .pre .1 .0) (e v) _ (v .state-set .ensures) _ (c .numbers .ensures) (b .0) (b .1)
 
   complement-returns : member-lts.Need-returns member-calls member-at member.Post
   unfolding stateNode

@@ -1,0 +1,15 @@
+-- `certificate::bytes::byte_in` meets its contract.
+-- Assumes nothing.
+use borrow.Author.Needs.{needs}
+use mathlib.Core.Path.{sym}
+use Rattle.certificate.proofs.ByteLaws.{number-one}
+use Rattle.certificate.proofs.bytes.byte_in.Statement.{statement}
+use Rattle.certificate.proofs.bytes.byte_in.Tie as tie
+
+returns : tie.Need-returns
+returns c =
+    let a = c .before .args in
+    sym (number-one (a .file .now) (a .at) (search needs))
+
+pub byte-in-spec : {M : Type 1} → statement M
+byte-in-spec = tie.close (tie.spec (λ c. search needs) returns)

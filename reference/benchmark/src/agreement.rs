@@ -1,0 +1,27 @@
+//! Both checkers give the same reply, and the expected one; else a message says who said what.
+
+use reference::{Answer, Reply};
+
+use crate::files::{Question, Timed};
+use crate::proved;
+
+/// The reply to a file.
+pub fn reply(file: &Timed) -> Result<Reply, String> {
+    let (ours, other) = (proved::reply(proved::check(&file.bytes)), reference::check(&file.bytes));
+    if ours == other && ours == file.expected {
+        return Ok(ours);
+    }
+    let Timed { name, expected, .. } = file;
+    Err(format!("{name}: the proved checker says {ours}, the reference {other}; expected is {expected}"))
+}
+
+/// The answer to a question.
+pub fn answer(question: &Question) -> Result<Answer, String> {
+    let Question { name, bytes, entry, state, expected } = question;
+    let ours = proved::answer(proved::ask(bytes, *entry, *state));
+    let other = reference::ask(bytes, *entry, *state);
+    if ours == other && ours == *expected {
+        return Ok(ours);
+    }
+    Err(format!("{name}: the proved checker says {ours}, the reference {other}; expected is {expected}"))
+}

@@ -1,0 +1,167 @@
+//! The files that are timed, each made anew by its generator, and the questions whose stack
+//! is measured. The seed is the workloads' usual one.
+
+use reference::draft::{sample, step, Draft, DraftActions, DraftSet};
+use reference::generate::growth;
+use reference::generate::limits::{many_action_sets, many_state_sets, workload};
+use reference::generate::random::Random;
+use reference::generate::worst::{no_model, two_right_leaves, Left};
+use reference::layout::MAX_STATE_SETS;
+use reference::shape::Method;
+use reference::{Answer, Reply};
+
+const SEED: u64 = 1;
+
+/// A file to check, and the reply that it must get.
+pub struct Timed {
+    pub name: String,
+    /// How it was made smaller than the limits allow; empty where it was not.
+    pub scaled: String,
+    pub bytes: Vec<u8>,
+    pub expected: Reply,
+}
+
+impl Timed {
+    fn new(name: impl Into<String>, bytes: Vec<u8>, expected: Reply) -> Timed {
+        Timed { name: name.into(), scaled: String::new(), bytes, expected }
+    }
+
+    fn accepted(name: impl Into<String>, draft: &Draft) -> Timed {
+        Timed::new(name, draft.encode(), Reply::Accepted)
+    }
+}
+
+/// The four workloads, as `reference workload NUMBER 1` writes them.
+pub fn workloads() -> Vec<Timed> {
+    let names = [
+        "W1: 4,096 listed states, 256 actions",
+        "W2: 256 Horn clauses, 256 actions",
+        "W3: 256 two-literal clauses, 256 actions",
+        "W4: 2,048 steps, 512 entries",
+    ];
+    let make = |number: usize| workload(&mut Random::new(SEED), number);
+    names.iter().zip(1..).map(|(name, number)| Timed::accepted(*name, &make(number))).collect()
+}
+
+/// How many clauses the first right leaf of a worst case has: with all 256, one check would
+/// take longer than anyone waits for a table.
+pub const RIGHT_CLAUSES: usize = 4;
+
+/// How many actions the worst search for a model has, of 256, for the same reason.
+pub const ACTIONS: usize = 32;
+
+/// The dearest statements over clauses (docs/DECISIONS.md), and the files whose entries each
+/// name the one before them twice.
+pub fn worst_cases() -> Vec<Timed> {
+    let mut all = Vec::new();
+    for complements in [0, 6] {
+        let left = Left { written: 8, complements };
+        let leaves = match complements {
+            0 => "8 left leaves".into(),
+            _ => format!("8 left leaves, {complements} complements right"),
+        };
+        for (kind, method) in [("Horn", Method::Horn), ("two-literal", Method::TwoCnf)] {
+            let draft = two_right_leaves(method, left, [RIGHT_CLAUSES, 256]);
+            let scaled = format!("{RIGHT_CLAUSES} of 256 clauses in the first right leaf");
+            let name = format!("{kind}, {leaves}, 2 right leaves");
+            all.push(Timed { scaled, ..Timed::accepted(name, &draft) });
+        }
+        let (scaled, draft) = (format!("{ACTIONS} of 256 actions"), no_model(left, ACTIONS));
+        let name = format!("two-literal satisfiability, {leaves}");
+        all.push(Timed { scaled, ..Timed::accepted(name, &draft) });
+    }
+    all.extend(doubling());
+    all
+}
+
+fn doubling() -> [Timed; 2] {
+    let unions = "256 action sets, each the one before it twice";
+    let intersections = "512 state sets, most the intersection of the one before it twice";
+    let too_many_leaves = Reply::Refused { number: 10, place: 7 };
+    [
+        Timed::new(unions, many_action_sets(0), Reply::Accepted),
+        Timed::new(intersections, many_state_sets(0), too_many_leaves),
+    ]
+}
+
+/// As many intersections over one another as a file can hold, for the stack alone.
+pub fn deepest() -> Timed {
+    let mut d = sample();
+    d.state_sets = vec![DraftSet::Empty];
+    let last = MAX_STATE_SETS as u16 - 1;
+    d.state_sets.extend((0..last).map(|entry| DraftSet::Intersection(entry, entry)));
+    d.steps = vec![step(1, 1, &[last, 0], &[])];
+    let too_many_leaves = Reply::Refused { number: 10, place: 0 };
+    Timed::new("511 intersections over one another", d.encode(), too_many_leaves)
+}
+
+/// Files of one form, each twice as large as the one before it.
+pub struct Series {
+    pub name: &'static str,
+    pub sizes: Vec<usize>,
+    pub files: Vec<Timed>,
+}
+
+impl Series {
+    /// Five files, the first of the given size.
+    fn new(name: &'static str, first: usize, make: impl Fn(usize) -> Draft) -> Series {
+        let sizes: Vec<usize> = (0..5).map(|k| first << k).collect();
+        let file = |size: &usize| Timed::accepted(format!("{size} {name}"), &make(*size));
+        let files = sizes.iter().map(file).collect();
+        Series { name, sizes, files }
+    }
+}
+
+/// Each measure of a file's size in turn, doubled up to its limit.
+pub fn series() -> Vec<Series> {
+    let random = || Random::new(SEED);
+    let listed = |states: usize, actions| growth::listed(&mut random(), states.ilog2() as usize, actions);
+    let clauses = |method, count| growth::clauses(&mut random(), method, count, 64);
+    let rules = |steps| growth::rules(&mut random(), steps / 4, steps);
+    vec![
+        Series::new("listed states, 64 actions", 256, |states| listed(states, 64)),
+        Series::new("actions, 1,024 listed states", 16, |actions| listed(1024, actions)),
+        Series::new("Horn clauses, 64 actions", 16, |count| clauses(Method::Horn, count)),
+        Series::new("two-literal clauses, 64 actions", 16, |count| clauses(Method::TwoCnf, count)),
+        Series::new("steps, a quarter as many entries", 128, rules),
+    ]
+}
+
+/// A question about a file, and the answer that it must get.
+pub struct Question {
+    pub name: String,
+    pub bytes: Vec<u8>,
+    pub entry: u64,
+    pub state: u64,
+    pub expected: Answer,
+}
+
+/// Listed states, clauses, and regressions over one another as deep as may be asked.
+pub fn questions() -> Vec<Question> {
+    let mut all = Vec::new();
+    for (name, number) in [("the listed states of W1", 1), ("the clauses of W2", 2), ("the clauses of W3", 3)]
+    {
+        let draft = workload(&mut Random::new(SEED), number);
+        let (bytes, state) = (draft.encode(), draft.init);
+        all.push(Question { name: name.into(), bytes, entry: 3, state, expected: Answer::In });
+    }
+    let (bytes, first) = regressions();
+    for levels in 1..=4 {
+        // Nothing leads into the goal, so every action is tried at each level.
+        let expected = if levels < 4 { Answer::Out } else { Answer::Refused { number: 13, place: 0 } };
+        let (name, entry) = (format!("regressions over one another, {levels}"), first + levels - 1);
+        all.push(Question { name, bytes: bytes.clone(), entry, state: 1, expected });
+    }
+    all
+}
+
+/// The sample with four regressions by a union of action sets, the first of the goal and each
+/// other of the one before it, and the entry number of the first.
+fn regressions() -> (Vec<u8>, u64) {
+    let mut d = sample();
+    d.action_sets.extend([DraftActions::List(vec![1]), DraftActions::Union(0, 1)]);
+    let first = d.state_sets.len() as u16;
+    d.state_sets.push(DraftSet::Regression(2, 2));
+    d.state_sets.extend((first..first + 3).map(|entry| DraftSet::Regression(entry, 2)));
+    (d.encode(), first as u64)
+}

@@ -1,0 +1,37 @@
+//! The proved checker by its C names (`crates/link`), with the reference's replies.
+
+use reference::{Answer, Reply};
+
+extern "C" {
+    pub(crate) fn certificate_check(file: *const u8, length: usize) -> u64;
+    pub(crate) fn certificate_ask(file: *const u8, length: usize, entry: u64, state: u64) -> u64;
+}
+
+/// The code of the proved checker's reply.
+pub fn check(file: &[u8]) -> u64 {
+    // It requires nothing of the bytes, reads no others and keeps nothing.
+    unsafe { certificate_check(file.as_ptr(), file.len()) }
+}
+
+/// The code of the proved checker's answer.
+pub fn ask(file: &[u8], entry: u64, state: u64) -> u64 {
+    // As above.
+    unsafe { certificate_ask(file.as_ptr(), file.len(), entry, state) }
+}
+
+/// The reply that a code says, as `certificate.h` has it.
+pub fn reply(code: u64) -> Reply {
+    match code {
+        0 => Reply::Accepted,
+        _ => Reply::Refused { number: (code >> 32) as u8, place: code as u32 },
+    }
+}
+
+/// The answer that a code says, as `certificate.h` has it.
+pub fn answer(code: u64) -> Answer {
+    match code {
+        0 => Answer::Out,
+        1 => Answer::In,
+        _ => Answer::Refused { number: (code >> 32) as u8, place: code as u32 },
+    }
+}

@@ -1,0 +1,103 @@
+//! Every timed file and every question gets the expected reply from both checkers, and has
+//! the size that its name says.
+
+use benchmark::files::{deepest, questions, series, workloads, worst_cases, Timed, ACTIONS, RIGHT_CLAUSES};
+use benchmark::{agreement, proved, stack};
+use reference::file::File;
+use reference::layout::MAX_BYTES;
+use reference::Reply;
+
+fn all() -> Vec<Timed> {
+    let mut files = workloads();
+    files.extend(worst_cases());
+    files.extend(series().into_iter().flat_map(|one| one.files));
+    files.push(deepest());
+    files
+}
+
+fn read(file: &Timed) -> File {
+    reference::layout::read(&file.bytes).unwrap_or_else(|fault| panic!("{}: {fault:?}", file.name))
+}
+
+#[test]
+fn both_give_the_expected_reply() {
+    let mut refused = Vec::new();
+    for file in all() {
+        assert!(file.bytes.len() <= MAX_BYTES, "{}", file.name);
+        match agreement::reply(&file).unwrap_or_else(|message| panic!("{message}")) {
+            Reply::Accepted => (),
+            Reply::Refused { number, place } => refused.push((number, place)),
+        }
+    }
+    // All are accepted but the two towers of intersections, which have more than 8 leaves.
+    assert_eq!(refused, [(10, 7), (10, 0)]);
+}
+
+#[test]
+fn both_give_the_expected_answer() {
+    for question in questions() {
+        assert_eq!(agreement::answer(&question), Ok(question.expected));
+    }
+}
+
+#[test]
+fn another_reply_than_expected_is_an_error() {
+    let mut file = deepest();
+    file.expected = Reply::Accepted;
+    let message = agreement::reply(&file).expect_err("the file is refused");
+    assert!(message.contains("refused 10 0") && message.contains("expected is accepted"), "{message}");
+    let mut question = questions().swap_remove(0);
+    question.state ^= 1;
+    assert!(agreement::answer(&question).is_err());
+}
+
+#[test]
+fn workloads_are_as_large_as_they_say() {
+    let files: Vec<File> = workloads().iter().map(read).collect();
+    assert_eq!((files[0].states.len(), files[0].task.actions.len()), (4096, 256));
+    assert_eq!((files[1].clauses.len(), files[1].task.actions.len()), (256, 256));
+    assert_eq!((files[2].clauses.len(), files[2].task.actions.len()), (256, 256));
+    assert_eq!((files[3].steps.len(), files[3].state_sets.len()), (2048, 512));
+}
+
+#[test]
+fn worst_cases_are_as_large_as_they_say() {
+    let files: Vec<File> = worst_cases().iter().map(read).collect();
+    let clauses: Vec<usize> = files[..6].iter().map(|file| file.clauses.len()).collect();
+    let right = RIGHT_CLAUSES + 256;
+    assert_eq!(clauses, [2048 + right, 2048 + right, 2048, 3584 + right, 3584 + right, 3584]);
+    assert_eq!((files[2].task.actions.len(), files[5].task.actions.len()), (ACTIONS, ACTIONS));
+    assert_eq!((files[6].action_sets.len(), files[7].state_sets.len()), (256, 512));
+}
+
+#[test]
+fn each_series_doubles_one_size() {
+    let measures: [fn(&File) -> usize; 5] = [
+        |file| file.states.len(),
+        |file| file.task.actions.len(),
+        |file| file.clauses.len(),
+        |file| file.clauses.len(),
+        |file| file.steps.len(),
+    ];
+    for (one, measure) in series().iter().zip(measures) {
+        let found: Vec<usize> = one.files.iter().map(|file| measure(&read(file))).collect();
+        assert_eq!(found, one.sizes, "{}", one.name);
+    }
+}
+
+#[test]
+fn stack_is_measured_by_the_same_call() {
+    let tower = deepest();
+    let (bytes, code) = stack::of_check(&tower.bytes);
+    assert_eq!(code, proved::check(&tower.bytes));
+    assert_eq!(bytes % 8, 0);
+    // A file that is refused at once uses its return address and little more.
+    let (least, code) = stack::of_check(&[]);
+    assert_eq!(proved::reply(code), Reply::Refused { number: 1, place: 0 });
+    assert!(8 <= least && least < bytes, "{least} {bytes}");
+    for question in questions() {
+        let (bytes, code) = stack::of_ask(&question.bytes, question.entry, question.state);
+        assert_eq!(proved::answer(code), question.expected);
+        assert!(bytes >= 8);
+    }
+}
