@@ -1,9 +1,7 @@
-// The file: a task and its certificate, how they are laid out and read. Replies 1 to 7.
+// The file as it stands in memory: its numbers, the places of its parts, and its entries and steps as values.
 
 pub mod bytes;
 pub mod known;
-pub mod layout;
-pub mod reader;
 pub mod views;
 
 // The task's numbers, how many of each part a file has, and where the parts after the actions start.

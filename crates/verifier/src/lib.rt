@@ -2,10 +2,10 @@
 use certificate::Outline;
 use certificate::Places;
 use certificate::known::fields;
-use certificate::layout::read_layout;
 use certificate::views::index_file;
 use derivation::reply::StepReply;
 use derivation::reply::check_step;
+use layout::read_layout;
 use meaning::Reply;
 ghost use mathlib.Core.Path.{_≡_};
 ghost use Prim.Native.Nat.{_-_};

@@ -1,0 +1,15 @@
+pub mod BodyLaws
+pub mod FieldLaws
+pub mod FormLaws
+pub mod LayoutLaws
+pub mod MaskLaws
+pub mod OutlineLaws
+pub mod PartLaws
+pub mod ReaderWalks
+pub mod ReadNumber
+pub mod ReaderSteps
+pub mod RestLaws
+pub mod TaskLaws
+pub mod Verdicts
+pub mod EntryChecks
+pub mod SectionChecks

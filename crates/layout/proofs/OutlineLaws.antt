@@ -1,0 +1,198 @@
+-- What is read of a file, beside what the code reads of it.
+-- Assumes nothing.
+use mathlib.Core.Path.{_≡_, refl, sym, ap, ap₂, _∙_, subst}
+use Prim.Native.Nat.{ℕ, zero, suc, _+_, _*_, _^_}
+use native.Mathlib.Omega.{arith}
+use mathlib.Core.Bool.{true, _&&_}
+use mathlib.Core.List.{List}
+use lib.ListN.{length}
+use lib.Dec.{leb, ltb, eqb}
+use Rattle.task.specs.Task.{Task}
+use Rattle.certificate.specs.declared.Places.{Places}
+use Rattle.meaning.specs.Result.{Result, refuse, found, _>>=_, need}
+use Rattle.meaning.specs.Bytes.{number}
+use Rattle.meaning.specs.File.{File, ActionSet, StateSet, Step}
+use Rattle.certificate.specs.Views.{numberAt, afterEntry, entryPlace, placesOf}
+use Rattle.meaning.specs.Layout.{items, field, count, mask, action, step, Kind, actionKinds, stateKinds, entry, entries, readTask}
+use Rattle.meaning.specs.Writing.{FitsAction}
+use Rattle.layout.specs.Verdicts.{verdict, sectionAt, stepsAt, restAt}
+use Rattle.meaning.proofs.Results.{bind-case, need-case, found-same}
+use Rattle.meaning.proofs.Given.{action-gives, items-give, action-sets-give, state-sets-give}
+use Rattle.certificate.proofs.ByteLaws.{number-in}
+use Rattle.layout.proofs.SectionChecks.{field-is, count-is, entry-fine}
+
+-- ---- where the entries end
+
+place-next : (bytes : List ℕ) (p k : ℕ) → entryPlace bytes (afterEntry bytes p) k ≡ entryPlace bytes p (suc k)
+unfolding entryPlace
+place-next bytes p zero = refl
+place-next bytes p (suc k) = ap (afterEntry bytes) (place-next bytes p k)
+
+entries-place : (bytes : List ℕ) {A : Type 0} (kinds : ℕ → List (Kind A)) (k i p : ℕ) (r : List A × ℕ) → entries bytes kinds i p k ≡ found r
+    → r .1 ≡ entryPlace bytes p k
+unfolding entries entryPlace afterEntry
+entries-place bytes kinds zero i p r e = ap (λ (s : List _ × ℕ). s .1) (sym (found-same e))
+entries-place bytes kinds (suc k) i p r e =
+    bind-case (entry bytes (kinds i) p) _ r e λ x x! e₁.
+    bind-case (entries bytes kinds (suc i) (p + 2 + number 2 bytes p) k) _ r e₁ λ s s! q.
+    let h = entry-fine bytes (kinds i) p refl (ap verdict (sym x!)) in
+    let w : number 2 bytes p ≡ numberAt 2 bytes p = sym (number-in 2 bytes p (omega arith)) in
+    ap (λ (t : List _ × ℕ). t .1) (sym (found-same q))
+    ∙ entries-place bytes kinds k (suc i) (p + 2 + number 2 bytes p) s s!
+    ∙ ap (λ (m : ℕ). entryPlace bytes (p + 2 + m) k) w
+    ∙ place-next bytes p k
+
+-- ---- the task's numbers
+
+pub record TaskIs (bytes : List ℕ) (t : Task) : Type 0 where
+  pub facts : t .facts ≡ numberAt 1 bytes 5
+  pub init : t .init ≡ numberAt 8 bytes 6
+  pub goal : t .goal ≡ numberAt 8 bytes 14
+  pub actions : length (t .actions) ≡ numberAt 2 bytes 22
+
+mask-is : (bytes : List ℕ) (n p x : ℕ) → mask bytes n p ≡ found x → x ≡ numberAt 8 bytes p
+unfolding mask
+mask-is bytes n p x e =
+    bind-case (field bytes 8 p) _ x e λ y y! e₁.
+    need-case (ltb y (2 ^ n)) 5 p _ x e₁ λ _ q.
+    sym (found-same q) ∙ field-is bytes 8 p y y! .0
+
+pub task-is : (bytes : List ℕ) (r : Task × ℕ) → readTask bytes ≡ found r → TaskIs bytes (r .0) × (r .1 ≡ 24 + 24 * length (r .0 .actions))
+unfolding readTask
+task-is bytes r e =
+    bind-case (field bytes 1 4) _ r e λ v _ e₁.
+    need-case (eqb v 1) 2 4 _ r e₁ λ _ e₂.
+    bind-case (field bytes 1 5) _ r e₂ λ n n! e₃.
+    need-case (leb 1 n && leb n 64) 4 5 _ r e₃ λ _ e₄.
+    bind-case (mask bytes n 6) _ r e₄ λ s s! e₅.
+    bind-case (mask bytes n 14) _ r e₅ λ g g! e₆.
+    bind-case (count bytes 0 256 22) _ r e₆ λ m m! e₇.
+    bind-case (items (action bytes n) 24 24 m) _ r e₇ λ acts acts! q.
+    let h : length acts ≡ m = items-give (FitsAction n) (action bytes n) 24 (action-gives bytes n) m 0 24 acts acts! .0 in
+    subst (λ (x : Task × ℕ). TaskIs bytes (x .0) × (x .1 ≡ 24 + 24 * length (x .0 .actions))) (found-same q) (
+      record {
+        facts = field-is bytes 1 5 n n! .0;
+        init = mask-is bytes n 6 s s!;
+        goal = mask-is bytes n 14 g g!;
+        actions = h ∙ count-is bytes 0 256 22 m m! .0;
+      },
+      omega arith,
+    )
+
+-- ---- two readings that refuse alike, and find what goes together
+
+pub data Agree {A B : Type 0} (P : A → B → Type 0) : Result A → Result B → Type 0 where
+  refusals : {n p : ℕ} → Agree P (refuse n p) (refuse n p)
+  values : {a : A} {b : B} → P a b → Agree P (found a) (found b)
+
+agree-bind : {A B C : Type 0} {P : B → C → Type 0} (r : Result A) (g : A → Result B) (h : A → Result C)
+    → ((x : A) → r ≡ found x → Agree P (g x) (h x)) → Agree P (r >>= g) (r >>= h)
+unfolding _>>=_
+agree-bind (refuse n p) g h f = refusals
+agree-bind (found x) g h f = f x refl
+
+-- the second may be grouped otherwise
+agree-group : {A B C D : Type 0} {P : B → C → Type 0} (s : Result B) (r : Result A) (k : A → Result D) (h : D → Result C)
+    → Agree P s (r >>= λ x. k x >>= h) → Agree P s ((r >>= k) >>= h)
+unfolding _>>=_
+agree-group s (refuse n p) k h a = a
+agree-group s (found x) k h a = a
+
+agree-found : {B C D : Type 0} {P : B → C → Type 0} {s : Result B} (x : D) (h : D → Result C) → Agree P s (h x) → Agree P s (found x >>= h)
+unfolding _>>=_
+agree-found x h a = a
+
+-- ---- the certificate
+
+module _ (bytes : List ℕ) (t : Task) where
+  -- the place after the actions
+  abbrev pub start : ℕ
+  start = 24 + 24 * length (t .actions)
+
+  -- what is read after the action sets, and what is read from the place after the actions on
+  unfoldable pub later : ℕ → List ActionSet × ℕ → Result File
+  later ac es = do
+    sc ← count bytes 0 512 (es .1)
+    ss ← entries bytes (stateKinds bytes (t .facts) ac) 0 (es .1 + 2) sc
+    kc ← count bytes 1 2048 (ss .1)
+    ks ← items (step bytes) 12 (ss .1 + 2) kc
+    _ ← need (leb (length bytes) (ss .1 + 2 + 12 * kc)) 3 (ss .1 + 2 + 12 * kc)
+    found (record { task = t; actionSets = es .0; stateSets = ss .0; steps = ks })
+
+  unfoldable pub tail : Result File
+  tail = do
+    ac ← count bytes 0 256 start
+    es ← entries bytes (actionKinds bytes (length (t .actions))) 0 (start + 2) ac
+    later ac es
+
+  -- where its parts are, by the places after the action sets and the state sets
+  abbrev pub placed : ℕ → ℕ → Places
+  placed a s = record {
+    facts = t .facts;
+    init = t .init;
+    goal = t .goal;
+    actions = length (t .actions);
+    «action_sets» = numberAt 2 bytes start;
+    «state_sets» = numberAt 2 bytes a;
+    steps = numberAt 2 bytes s;
+    «action_sets_at» = start + 2;
+    «state_sets_at» = a + 2;
+    «steps_at» = s + 2;
+  }
+
+  module _ (ac sc kc : ℕ) (es : List ActionSet × ℕ) (ss : List StateSet × ℕ) (ks : List Step) (ac! : count bytes 0 256 start ≡ found ac)
+      (es! : entries bytes (actionKinds bytes (length (t .actions))) 0 (start + 2) ac ≡ found es) (sc! : count bytes 0 512 (es .1) ≡ found sc)
+      (ss! : entries bytes (stateKinds bytes (t .facts) ac) 0 (es .1 + 2) sc ≡ found ss) (kc! : count bytes 1 2048 (ss .1) ≡ found kc)
+      (ks! : items (step bytes) 12 (ss .1 + 2) kc ≡ found ks) where
+    places-are : placesOf bytes (record { task = t; actionSets = es .0; stateSets = ss .0; steps = ks }) ≡ placed (es .1) (ss .1)
+    unfolding placesOf
+    places-are =
+        let la : length (es .0) ≡ ac = action-sets-give bytes (length (t .actions)) ac (start + 2) es es! .0 in
+        let ls : length (ss .0) ≡ sc = state-sets-give bytes (t .facts) ac sc (es .1 + 2) ss ss! .0 in
+        let lk : length ks ≡ kc = items-give (λ _. Unit {0}) (step bytes) 12 (λ p x e. tt) kc 0 (ss .1 + 2) ks ks! .0 in
+        let a : 26 + 24 * length (t .actions) ≡ start + 2 = omega arith in
+        let b : entryPlace bytes (26 + 24 * length (t .actions)) (length (es .0)) + 2 ≡ es .1 + 2 =
+        ap₂ (λ (p k : ℕ). entryPlace bytes p k + 2) a la
+        ∙ ap (λ (p : ℕ). p + 2) (sym (entries-place bytes (actionKinds bytes (length (t .actions))) ac 0 (start + 2) es es!)) in
+        let c : entryPlace bytes (entryPlace bytes (26 + 24 * length (t .actions)) (length (es .0)) + 2) (length (ss .0)) + 2 ≡ ss .1 + 2 =
+        ap₂ (λ (p k : ℕ). entryPlace bytes p k + 2) b ls
+        ∙ ap (λ (p : ℕ). p + 2) (sym (entries-place bytes (stateKinds bytes (t .facts) ac) sc 0 (es .1 + 2) ss ss!)) in
+        let na : length (es .0) ≡ numberAt 2 bytes start = la ∙ count-is bytes 0 256 start ac ac! .0 in
+        let ns : length (ss .0) ≡ numberAt 2 bytes (es .1) = ls ∙ count-is bytes 0 512 (es .1) sc sc! .0 in
+        let nk : length ks ≡ numberAt 2 bytes (ss .1) = lk ∙ count-is bytes 1 2048 (ss .1) kc kc! .0 in
+        λ i. record {
+          facts = t .facts;
+          init = t .init;
+          goal = t .goal;
+          actions = length (t .actions);
+          «action_sets» = na i;
+          «state_sets» = ns i;
+          steps = nk i;
+          «action_sets_at» = a i;
+          «state_sets_at» = b i;
+          «steps_at» = c i;
+        }
+
+  abbrev pub Placed : File → ℕ × ℕ → Type 0
+  Placed f x = placesOf bytes f ≡ placed (x .0) (x .1)
+
+  -- the file that is read has its parts where the code finds them, and what is refused is refused alike
+  pub tail-agrees : Agree Placed tail (restAt bytes (t .facts) (length (t .actions)))
+  unfolding later tail restAt sectionAt stepsAt
+  tail-agrees =
+      agree-group tail (count bytes 0 256 start) _ _
+      (agree-bind (count bytes 0 256 start) _ _ λ ac ac!.
+      agree-bind (entries bytes (actionKinds bytes (length (t .actions))) 0 (start + 2) ac) _ _ λ es es!.
+      subst (λ (o : ℕ). Agree {A = File} {B = ℕ × ℕ} Placed (later ac es) (sectionAt bytes (record { states = true; facts = t .facts; others = o }) 512 (es .1)
+      >>= λ ss. stepsAt bytes (ss .1) >>= λ _. found (es .1, ss .1)))
+      (count-is bytes 0 256 start ac ac! .0)
+      (agree-group _ (count bytes 0 512 (es .1)) _ _
+      (agree-bind (count bytes 0 512 (es .1)) _ _ λ sc sc!.
+      agree-bind (entries bytes (stateKinds bytes (t .facts) ac) 0 (es .1 + 2) sc) _ _ λ ss ss!.
+      agree-group _ (count bytes 1 2048 (ss .1)) _ _
+      (agree-bind (count bytes 1 2048 (ss .1)) _ _ λ kc kc!.
+      agree-group _ (items (step bytes) 12 (ss .1 + 2) kc) _ _
+      (agree-bind (items (step bytes) 12 (ss .1 + 2) kc) _ _ λ ks ks!.
+      agree-group _ (need (leb (length bytes) (ss .1 + 2 + 12 * kc)) 3 (ss .1 + 2 + 12 * kc)) _ _
+      (agree-bind (need (leb (length bytes) (ss .1 + 2 + 12 * kc)) 3 (ss .1 + 2 + 12 * kc)) _ _ λ _ _.
+      agree-found ks _ (values (places-are ac sc kc es ss ks ac! es! sc! ss! kc! ks!))))))))

@@ -1,0 +1,66 @@
+-- What follows the actions, section by section.
+-- Assumes nothing.
+use mathlib.Core.Path.{_≡_, sym, ap, _∙_}
+use Prim.Native.Nat.{ℕ, _+_, _*_}
+use native.Mathlib.Omega.{arith}
+use mathlib.Core.Bool.{true, false}
+use mathlib.Core.List.{List}
+use Rattle.layout.specs.declared.Verdict.{Verdict}
+use Rattle.layout.specs.declared.Walk.{Walk}
+use Rattle.layout.specs.declared.Verdict.the-variants.{Fine, Refused}
+use Rattle.layout.specs.declared.Walk.the-variants.{After, Refused as Stopped}
+use Rattle.layout.specs.declared.Rest.the-variants.{After as Both, Refused as Ended}
+use Rattle.layout.specs.declared.Section.{Section}
+use Rattle.meaning.specs.Result.{Result, refuse, found}
+use Rattle.certificate.specs.Views.{numberAt}
+use Rattle.layout.specs.Verdicts.{verdict, walk, rest, sectionAt, stepsAt, restAt}
+use Rattle.layout.proofs.Verdicts.{found-of, refused-of, goes-on, stops}
+
+walked-to : {A : Type 0} (r : Result (A × ℕ)) {v : Walk} {p : ℕ} → v ≡ After p → v ≡ walk r → (x : A) × (r ≡ found (x, p))
+walked-to (refuse n q) g e = let z : _≡_ {A = ℕ} 0 1 = cc in absurd (omega arith)
+walked-to (found x) {p = p} g e = let i : x .1 ≡ p = cc in (x .0, ap (λ (q : ℕ). found (x .0, q)) i)
+
+walked-not : {A : Type 0} (r : Result (A × ℕ)) {v : Walk} {n p : ℕ} → v ≡ Stopped n p → v ≡ walk r → r ≡ refuse n p
+walked-not (refuse m q) g e = cc
+walked-not (found x) g e = let z : _≡_ {A = ℕ} 0 1 = cc in absurd (omega arith)
+
+module _ (bytes : List ℕ) (n m : ℕ) where
+  -- the action sets
+  abbrev First : Section
+  First = record { states = false; facts = n; others = m }
+
+  pub first-bad : {v : Walk} {r q : ℕ} → v ≡ Stopped r q → v ≡ walk (sectionAt bytes First 256 (24 + 24 * m)) → Ended r q ≡ rest (restAt bytes n m)
+  unfolding restAt
+  first-bad g e = sym (ap rest (stops _ (walked-not (sectionAt bytes First 256 (24 + 24 * m)) g e)))
+
+  -- the state sets
+  abbrev Second : ℕ → Section
+  Second o = record { states = true; facts = n; others = o }
+
+  module _ {v : Walk} {a o : ℕ} (g : v ≡ After a) (e : v ≡ walk (sectionAt bytes First 256 (24 + 24 * m))) (w : o ≡ numberAt 2 bytes (24 + 24 * m)) where
+    same-second : sectionAt bytes (Second (numberAt 2 bytes (24 + 24 * m))) 512 a ≡ sectionAt bytes (Second o) 512 a
+    same-second = ap (λ (k : ℕ). sectionAt bytes (Second k) 512 a) (sym w)
+
+    pub second-bad : {u : Walk} {r q : ℕ} → u ≡ Stopped r q → u ≡ walk (sectionAt bytes (Second o) 512 a) → Ended r q ≡ rest (restAt bytes n m)
+    unfolding restAt
+    second-bad y f =
+        sym (ap rest
+        (goes-on _ (walked-to (sectionAt bytes First 256 (24 + 24 * m)) g e .1)
+        ∙ stops _ (same-second ∙ walked-not (sectionAt bytes (Second o) 512 a) y f)))
+
+    module _ {u : Walk} {s : ℕ} (y : u ≡ After s) (f : u ≡ walk (sectionAt bytes (Second o) 512 a)) where
+      pub third-bad : {x : Verdict} {r q : ℕ} → x ≡ Refused r q → x ≡ verdict (stepsAt bytes s) → Ended r q ≡ rest (restAt bytes n m)
+      unfolding restAt
+      third-bad {r = r} {q} z h =
+          sym (ap rest
+          (goes-on _ (walked-to (sectionAt bytes First 256 (24 + 24 * m)) g e .1)
+          ∙ goes-on _ (same-second ∙ walked-to (sectionAt bytes (Second o) 512 a) y f .1)
+          ∙ stops _ (refused-of (stepsAt bytes s) r q (sym z ∙ h))))
+
+      pub all-good : {x : Verdict} → x ≡ Fine → x ≡ verdict (stepsAt bytes s) → Both a s ≡ rest (restAt bytes n m)
+      unfolding restAt
+      all-good z h =
+          sym (ap rest
+          (goes-on _ (walked-to (sectionAt bytes First 256 (24 + 24 * m)) g e .1)
+          ∙ goes-on _ (same-second ∙ walked-to (sectionAt bytes (Second o) 512 a) y f .1)
+          ∙ goes-on _ (found-of (stepsAt bytes s) (sym z ∙ h) .1)))

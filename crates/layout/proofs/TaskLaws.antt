@@ -1,0 +1,132 @@
+-- The fields up to and with the actions, test by test. The masks of the start, the goal and the actions are read as runs of masks.
+-- Assumes nothing.
+use mathlib.Core.Path.{_≡_, refl, sym, ap, _∙_}
+use Prim.Native.Nat.{ℕ, zero, suc, _+_, _*_}
+use native.Mathlib.Omega.{arith}
+use mathlib.Core.Bool.{Bool, true, false, not, _&&_}
+use mathlib.Core.List.{List, [], _∷_}
+use lib.Dec.{leb}
+use borrow.Author.Tests.{eq-eqb, ne-eqb, not-true, not-false}
+use Rattle.task.specs.declared.Action.{Action}
+use Rattle.layout.specs.declared.Verdict.{Verdict}
+use Rattle.layout.specs.declared.Verdict.the-variants.{Fine, Refused}
+use Rattle.meaning.specs.Result.{Result, refuse, found, _>>=_}
+use Rattle.meaning.specs.Bytes.{inside}
+use Rattle.certificate.specs.Views.{numberAt}
+use Rattle.meaning.specs.Layout.{items, field, count, mask, action, readTask}
+use Rattle.layout.specs.Verdicts.{verdict}
+use Rattle.certificate.proofs.ByteLaws.{inside-out}
+use Rattle.layout.proofs.Verdicts.{forget, told, told-refused, refused-of, goes-on, stops, passed, failed, forget-after}
+use Rattle.layout.proofs.FieldLaws.{field-in}
+use Rattle.layout.proofs.SectionChecks.{count-found}
+
+-- ---- runs of masks
+
+pairs : {B : Type 0} (a b : Result ℕ) (g : ℕ → ℕ → Result B) {r q : ℕ}
+    → Refused r q ≡ verdict (a >>= λ x. (b >>= λ y. found (y ∷ [])) >>= λ ys. found (x ∷ ys)) → (a >>= λ x. b >>= λ y. g x y) ≡ refuse r q
+unfolding _>>=_
+pairs (refuse m p) b g e = cc
+pairs (found x) (refuse m p) g e = cc
+pairs (found x) (found y) g e = let z : _≡_ {A = ℕ} 0 1 = cc in absurd (omega arith)
+
+both : (a b : Result ℕ) → Fine ≡ verdict (a >>= λ x. (b >>= λ y. found (y ∷ [])) >>= λ ys. found (x ∷ ys))
+    → (x : ℕ) × (y : ℕ) × (a ≡ found x) × (b ≡ found y)
+unfolding _>>=_
+both (refuse m p) b e = let z : _≡_ {A = ℕ} 0 1 = cc in absurd (omega arith)
+both (found x) (refuse m p) e = let z : _≡_ {A = ℕ} 0 1 = cc in absurd (omega arith)
+both (found x) (found y) e = (x, y, refl, refl)
+
+-- the start and the goal are two masks
+two-bad : {B : Type 0} (read : ℕ → Result ℕ) (g : ℕ → ℕ → Result B) {r q : ℕ} → Refused r q ≡ verdict (items read 8 6 2)
+    → (read 6 >>= λ x. read 14 >>= λ y. g x y) ≡ refuse r q
+unfolding items _>>=_
+two-bad read g e = pairs (read 6) (read 14) g e
+
+two-good : (read : ℕ → Result ℕ) → Fine ≡ verdict (items read 8 6 2) → (x : ℕ) × (y : ℕ) × (read 6 ≡ found x) × (read 14 ≡ found y)
+unfolding items _>>=_
+two-good read e = both (read 6) (read 14) e
+
+-- an action is three masks, and what follows it
+three : {B : Type 0} (a b c : Result ℕ) (ts : Result (List ℕ)) (us : Result B) (f : ℕ → ℕ → ℕ → Action) (g : Action → B → List Action)
+    → forget ts ≡ forget us
+    → forget (a >>= λ x. (b >>= λ y. (c >>= λ z. ts >>= λ zs. found (z ∷ zs)) >>= λ ys. found (y ∷ ys)) >>= λ xs. found (x ∷ xs))
+    ≡ forget ((a >>= λ x. b >>= λ y. c >>= λ z. found (f x y z)) >>= λ v. us >>= λ vs. found (g v vs))
+unfolding _>>=_
+three (refuse m p) b c ts us f g e = refl
+three (found x) (refuse m p) c ts us f g e = refl
+three (found x) (found y) (refuse m p) ts us f g e = refl
+three (found x) (found y) (found z) (refuse m p) us f g e = e ∙ sym (forget-after us (g (f x y z)))
+three (found x) (found y) (found z) (found zs) us f g e = e ∙ sym (forget-after us (g (f x y z)))
+
+actions-masks : (bytes : List ℕ) (n m p : ℕ) → forget (items (mask bytes n) 8 p (3 * m)) ≡ forget (items (action bytes n) 24 p m)
+unfolding items action
+actions-masks bytes n zero p = refl
+actions-masks bytes n (suc m) p =
+    let e : 3 * suc m ≡ suc (suc (suc (3 * m))) = omega arith in
+    let e₁ : p + 8 + 8 ≡ p + 16 = omega arith in
+    let e₂ : p + 8 + 8 + 8 ≡ p + 24 = omega arith in
+    ap (λ (k : ℕ). forget (items (mask bytes n) 8 p k)) e
+    ∙ three (mask bytes n p) (mask bytes n (p + 8)) (mask bytes n (p + 8 + 8)) (items (mask bytes n) 8 (p + 8 + 8 + 8) (3 * m))
+    (items (action bytes n) 24 (p + 24) m) (λ x y z. record { pre = x; add = y; del = z }) _∷_
+    (ap (λ (j : ℕ). forget (items (mask bytes n) 8 j (3 * m))) e₂ ∙ actions-masks bytes n m (p + 24))
+    ∙ ap (λ (j : ℕ). forget ((mask bytes n p >>= λ x. mask bytes n (p + 8) >>= λ y. mask bytes n j >>= λ z. found (record { pre = x; add = y; del = z }))
+    >>= λ (v : Action). items (action bytes n) 24 (p + 24) m >>= λ vs. found (v ∷ vs))) e₁
+
+-- ---- the tests
+
+module _ (bytes : List ℕ) {t : Bool} (q : t ≡ inside 1 bytes 4) where
+  refused : {r p : ℕ} → readTask bytes ≡ refuse r p → Refused r p ≡ verdict (readTask bytes)
+  refused e = told-refused (readTask bytes) _ _ (ap forget e)
+
+  pub version-cut : not t ≡ true → Refused 3 4 ≡ verdict (readTask bytes)
+  unfolding readTask field
+  version-cut s = refused (stops _ (failed 3 4 _ (sym q ∙ not-true t s)))
+
+  module _ (s : not t ≡ false) {v : ℕ} (ev : v ≡ numberAt 1 bytes 4) where
+    version-read : field bytes 1 4 ≡ found v
+    version-read = field-in bytes 4 1 (inside-out 1 bytes 4 (sym q ∙ not-false t s)) ev
+
+    pub version-other : (v ≡ 1 → ⊥) → Refused 2 4 ≡ verdict (readTask bytes)
+    unfolding readTask
+    version-other g = refused (goes-on _ version-read ∙ failed 2 4 _ (ne-eqb v 1 g))
+
+    module _ (g : v ≡ 1) {u : Bool} (q′ : u ≡ inside 1 bytes 5) where
+      pub facts-cut : not u ≡ true → Refused 3 5 ≡ verdict (readTask bytes)
+      unfolding readTask field
+      facts-cut s′ = refused (goes-on _ version-read ∙ passed 2 4 _ (eq-eqb v 1 g) ∙ stops _ (failed 3 5 _ (sym q′ ∙ not-true u s′)))
+
+      module _ (s′ : not u ≡ false) {n : ℕ} (en : n ≡ numberAt 1 bytes 5) where
+        facts-read : field bytes 1 5 ≡ found n
+        facts-read = field-in bytes 5 1 (inside-out 1 bytes 5 (sym q′ ∙ not-false u s′)) en
+
+        pub facts-bad : not (leb 1 n && leb n 64) ≡ true → Refused 4 5 ≡ verdict (readTask bytes)
+        unfolding readTask
+        facts-bad x =
+            refused (goes-on _ version-read ∙ passed 2 4 _ (eq-eqb v 1 g) ∙ goes-on _ facts-read ∙ failed 4 5 _ (not-true (leb 1 n && leb n 64) x))
+
+        module _ (x : not (leb 1 n && leb n 64) ≡ false) where
+          before-masks : readTask bytes ≡ (mask bytes n 6 >>= λ s. mask bytes n 14 >>= λ g. count bytes 0 256 22 >>= λ m.
+              items (action bytes n) 24 24 m >>= λ acts. found (record { facts = n; init = s; goal = g; actions = acts }, 24 + 24 * m))
+          unfolding readTask
+          before-masks =
+              goes-on _ version-read ∙ passed 2 4 _ (eq-eqb v 1 g) ∙ goes-on _ facts-read ∙ passed 4 5 _ (not-false (leb 1 n && leb n 64) x)
+
+          pub state-bad : {w : Verdict} {r p : ℕ} → w ≡ Refused r p → w ≡ verdict (items (mask bytes n) 8 6 2) → Refused r p ≡ verdict (readTask bytes)
+          state-bad z y = refused (before-masks ∙ two-bad (mask bytes n) _ (sym z ∙ y))
+
+          module _ {w : Verdict} (fine : w ≡ Fine) (y : w ≡ verdict (items (mask bytes n) 8 6 2)) where
+            before-count : (s : ℕ) × (g : ℕ) × (readTask bytes ≡ (count bytes 0 256 22 >>= λ m.
+                items (action bytes n) 24 24 m >>= λ acts. found (record { facts = n; init = s; goal = g; actions = acts }, 24 + 24 * m)))
+            before-count = let h = two-good (mask bytes n) (sym fine ∙ y) in (h .0, h .1, before-masks ∙ goes-on _ (h .2) ∙ goes-on _ (h .3))
+
+            pub actions-none : {x : Verdict} {r p : ℕ} → x ≡ Refused r p → x ≡ verdict (count bytes 0 256 22) → Refused r p ≡ verdict (readTask bytes)
+            actions-none {r = r} {p} i z = refused (before-count .2 ∙ stops _ (refused-of (count bytes 0 256 22) r p (sym i ∙ z)))
+
+            pub actions-say : {i : Verdict} → i ≡ Fine → i ≡ verdict (count bytes 0 256 22) → {m : ℕ} → m ≡ numberAt 2 bytes 22
+                → {j : Verdict} → j ≡ verdict (items (mask bytes n) 8 24 (3 * m)) → j ≡ verdict (readTask bytes)
+            actions-say good z {m} em j =
+                j
+                ∙ told (items (mask bytes n) 8 24 (3 * m)) (readTask bytes)
+                (actions-masks bytes n m 24
+                ∙ sym (forget-after (items (action bytes n) 24 24 m) _)
+                ∙ ap forget (sym (before-count .2 ∙ goes-on _ (count-found bytes 0 256 22 good z em))))

@@ -1,0 +1,21 @@
+-- What the reading place finds at the start of an entry and of the task.
+-- Assumes nothing.
+use Prim.Native.Nat.{ℕ, _+_}
+use mathlib.Core.List.{List}
+use Rattle.layout.specs.declared.reader.EntryHead.{EntryHead}
+use Rattle.layout.specs.declared.reader.TaskHead.{TaskHead}
+use Rattle.certificate.specs.Views.{numberAt}
+
+-- the entry at place p: the length of its rest, and its kind
+abbrev pub entryHeadAt : List ℕ → ℕ → EntryHead
+entryHeadAt bytes p = record { len = numberAt 2 bytes p; kind = numberAt 1 bytes (p + 2) }
+
+-- the task: its fields stand one after the other, from place 4
+abbrev pub taskHeadAt : List ℕ → TaskHead
+taskHeadAt bytes = record {
+  version = numberAt 1 bytes 4;
+  facts = numberAt 1 bytes 5;
+  init = numberAt 8 bytes 6;
+  goal = numberAt 8 bytes 14;
+  actions = numberAt 2 bytes 22;
+}
