@@ -5,7 +5,8 @@ use Prim.Native.Nat.{ℕ, zero, suc, _+_, _*_, _≤_, _<_}
 use native.Mathlib.Nat.{le-antisymm}
 use native.Mathlib.Numerals.{add-one}
 use native.Mathlib.Omega.{arith}
-use mathlib.Core.Bool.{Bool, true, false}
+use native.Mathlib.Decide.{decLt}
+use mathlib.Core.Bool.{Bool, true, false, true≢false}
 use mathlib.Core.List.{List}
 use lib.ListN.{length}
 use lib.Dec.{T, eqb}
@@ -16,7 +17,7 @@ use Rattle.meaning.specs.Sets.{allBelow, someBelow, meets}
 use Rattle.clauses.specs.Clauses.{clauseAt}
 use Rattle.inclusion.specs.Listed.{leafHolds, InOrderAt}
 use Rattle.inclusion.specs.Search.{Readable}
-use Rattle.meaning.proofs.Below.{all-at, some-of}
+use Rattle.meaning.proofs.Below.{all-at, some-at, some-of}
 use Rattle.inclusion.proofs.SearchLaws.{is-false}
 
 -- ---- each number below k passes; some number does
@@ -43,6 +44,15 @@ module _ (t : ℕ → Bool) where
   pub some-more : (i : ℕ) → someBelow i t ≡ false → t i ≡ false → someBelow (i + 1) t ≡ false
   unfolding someBelow
   some-more i p e = rw (add-one, e, someBelow) p
+
+  pub some-range : (i j : ℕ) → someBelow i t ≡ false → ((k : ℕ) → i ≤ k → k < j → t k ≡ false) → someBelow j t ≡ false
+  some-range i j p h =
+      is-false (someBelow j t) (λ w.
+      let x = some-at j t w in
+      elim (decLt (x .0) i) [
+        | yes l ↦ true≢false (sym (is-true (someBelow i t) (some-of i t (x .0) l (x .2))) ∙ p)
+        | no l ↦ true≢false (sym (is-true (t (x .0)) (x .2)) ∙ h (x .0) (omega arith) (x .1))
+      ])
 
   pub some-found : (k i : ℕ) → i < k → t i ≡ true → true ≡ someBelow k t
   some-found k i l e = sym (is-true (someBelow k t) (some-of k t i l (subst T (sym e) tt)))

@@ -23,6 +23,10 @@ pub is-false : (b : Bool) → (T b → ⊥) → b ≡ false
 is-false true f = absurd (f tt)
 is-false false f = refl
 
+-- what holds from one number on up to i, and of i
+pub from-more : (Q : ℕ → Type 0) (from i : ℕ) → ((k : ℕ) → from ≤ k → k < i → Q k) → Q i → (k : ℕ) → from ≤ k → k < i + 1 → Q k
+from-more Q from i h q k l m = elim (decLt k i) [ yes n ↦ h k l n | no n ↦ (let e : i ≡ k = omega arith in subst Q e q) ]
+
 -- state k of those from a place
 abbrev pub word : List ℕ → ℕ → ℕ → ℕ
 word bytes at k = numberAt 8 bytes (at + 8 * k)

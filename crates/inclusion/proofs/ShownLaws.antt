@@ -16,7 +16,7 @@ use Rattle.meaning.specs.Sets.{allBelow, someBelow}
 use Rattle.shapes.specs.Counter.{seen}
 use Rattle.inclusion.specs.declared.listed.Rows.{Rows}
 use Rattle.inclusion.specs.Listed.{statesAt, InOrder, leafHolds, leafStates, leafHoldsAt, leafStatesAt, Shows}
-use Rattle.inclusion.specs.Search.{ListsAfter, RowsAfter, spared, holdsAt, showsIn, Readable}
+use Rattle.inclusion.specs.Search.{ListsAfter, RowsAfter, Held, spared, holdsAt, showsIn, Readable}
 use Rattle.meaning.proofs.Below.{all-at, all-of, some-at, some-of}
 use Rattle.inclusion.proofs.SearchLaws.{is-false, word, listed-at, listed-in}
 
@@ -66,13 +66,11 @@ module _ (bytes : List ℕ) (init goal : ℕ) (right : List ℕ) (r : ℕ) (p : 
   rows-ordered h (inl e) = rw e (record { inside = omega arith; ascend = tt })
   rows-ordered h (inr (l, e)) = rw e (h .ordered 0 (l .0) (same (l .1)))
 
-  pub rows-held : (a : Action) (left : List ℕ) (m but s k : ℕ) {t : ℕ} → RowsAfter right r p → k < p .count
-      → ltb k (p .count) ≡ member t (statesAt bytes (p .at) (p .count)) → t ≡ after a s
-      → showsIn bytes init goal a left m right r but s ≡ false
-  rows-held a left m but s k (inl e) l q w = let z : p .count ≡ 0 = ap (λ (x : Rows). x .count) e in absurd (omega arith)
-  rows-held a left m but s k (inr (h, e)) l q w =
-      shows-held bytes init goal a left m right r but s h
-      (rw (← w) (rw e at (holds (sym q ∙ is-true (ltb k (p .count)) (lt→ltb k (p .count) l)))))
+  pub held-shows : (a : Action) (left : List ℕ) (m but s : ℕ) → RowsAfter right r p → Held bytes p a s → showsIn bytes init goal a left m right r but s ≡ false
+  unfolding statesAt
+  held-shows a left m but s w (inl e) = sym (shows-not-applies bytes init goal a left m right r but s e)
+  held-shows a left m but s (inl e) (inr q) = absurd (member-none (after a s) (holds (rw e at q)))
+  held-shows a left m but s (inr (h, e)) (inr q) = shows-held bytes init goal a left m right r but s h (holds (rw e at q))
 
 -- ---- leaves
 

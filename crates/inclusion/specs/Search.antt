@@ -10,9 +10,10 @@ use lib.ListN.{length, getD}
 use lib.Dec.{eqb}
 use Rattle.task.specs.declared.Action.{Action}
 use Rattle.task.specs.Task.{applies, after}
+use Rattle.task.specs.Reach.{member}
 use Rattle.meaning.specs.Sets.{allBelow}
 use Rattle.inclusion.specs.declared.listed.Rows.{Rows}
-use Rattle.inclusion.specs.Listed.{leafHolds, InOrderAt}
+use Rattle.inclusion.specs.Listed.{statesAt, leafHolds, InOrderAt}
 
 -- the left leaf that need not be asked: the anchor, whose states are tried, unless it is asked about the state after the action
 unfoldable pub spared : List ℕ → ℕ → ℕ → ℕ
@@ -24,6 +25,10 @@ ListsAfter right r = (1 ≤ r) × (getD right 0 0 ≡ 3) × (getD right 3 0 ≡ 
 
 abbrev pub RowsAfter : List ℕ → ℕ → Rows → Type 0
 RowsAfter right r p = (p ≡ record { at = 0; count = 0 }) ⊎ (ListsAfter right r × (p ≡ record { at = getD right 1 0; count = getD right 2 0 }))
+
+-- the action does not apply in s, or leads from it to one of the rows
+abbrev pub Held : List ℕ → Rows → Action → ℕ → Type 0
+Held bytes p a s = (applies a s ≡ false) ⊎ (member (after a s) (statesAt bytes (p .at) (p .count)) ≡ true)
 
 module _ (bytes : List ℕ) (init goal : ℕ) where
   -- leaf j holds s, or t where it is asked about the state after the action

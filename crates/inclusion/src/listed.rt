@@ -7,7 +7,7 @@ use task::all_on;
 use task::applies;
 ghost use mathlib.Core.Path.{_≡_};
 ghost use mathlib.Core.Logic.{_↔_};
-ghost use Prim.Native.Nat.{_+_, _*_, _≤_, _<_};
+ghost use Prim.Native.Nat.{ℕ, _+_, _*_, _≤_, _<_};
 ghost use mathlib.Core.Bool.{not, _||_};
 ghost use lib.ListN.{length};
 ghost use lib.Dec.{T, eqb, ltb};
@@ -16,7 +16,7 @@ ghost use Rattle.certificate.specs.Views.{numberAt};
 ghost use Rattle.meaning.specs.Sets.{allBelow, someBelow, meets};
 ghost use Rattle.clauses.specs.Clauses.{clauseAt};
 ghost use Rattle.inclusion.specs.Listed.{statesAt, InOrder, leafHolds, InOrderAt, Shows};
-ghost use Rattle.inclusion.specs.Search.{RowsAfter, holdsAt, showsIn, spared, Readable, Ready};
+ghost use Rattle.inclusion.specs.Search.{RowsAfter, Held, holdsAt, showsIn, spared, Readable, Ready};
 
 // The guess, where it is one of so many, else the one in the middle.
 fn within(guess: usize, all: usize) -> usize
@@ -211,6 +211,33 @@ fn rows_after(right: &[u32], r: usize) -> Rows
     Rows { at: 0, count: 0 }
 }
 
+// The first of `count` states from a place, from number `from` on, in which the action applies and does not lead into the rows.
+fn first_open(file: &[u8], at: u32, count: u32, from: usize, rows: Rows, a: Action) -> usize
+    requires { ⌜ (from ≤ count) × (at + 8 * count ≤ length (now file)) × InOrder (now file) (rows .at) (rows .count) ⌝ }
+    ensures { λ r. ⌜ (r ≤ count) × (from ≤ r) × ((k : ℕ) → from ≤ k → k < r → Held (now (file .entry)) rows a (numberAt 8 (now (file .entry)) (at + 8 * k))) ⌝ }
+{
+    let first = at as usize;
+    let states = count as usize;
+    let place = rows.at;
+    let many = rows.count;
+    let mut near: usize = 0;
+    let mut i = from;
+    while i < states {
+        let s = u64_in(file, first + 8 * i);
+        if !applies(a, s) {
+            i += 1;
+            continue;
+        }
+        let k = find(file, place, many, near, after(a, s));
+        if many as usize <= k {
+            return i;
+        }
+        near = k + 1;
+        i += 1;
+    }
+    i
+}
+
 // Whether one of `count` states from a place does. One from which the action leads into the first right leaf does not.
 fn one_shows(
     file: &[u8],
@@ -230,29 +257,15 @@ fn one_shows(
     requires { ⌜ at + 8 * count ≤ length (now file) ⌝ }
     ensures { λ b. ⌜ b ≡ someBelow count (λ i. showsIn (now (file .entry)) init goal a (now (left .entry)) m (now (right .entry)) r but (numberAt 8 (now (file .entry)) (at + 8 * i))) ⌝ }
 {
-    let first = at as usize;
-    let states = count as usize;
     let rows = rows_after(right, r);
-    let place = rows.at;
-    let many = rows.count;
-    let mut near: usize = 0;
-    let mut i: usize = 0;
+    let states = count as usize;
+    let mut i = first_open(file, at, count, 0, rows, a);
     while i < states {
-        let s = u64_in(file, first + 8 * i);
-        if !applies(a, s) {
-            i += 1;
-            continue;
-        }
-        let k = find(file, place, many, near, after(a, s));
-        if k < many as usize {
-            near = k;
-            i += 1;
-            continue;
-        }
+        let s = u64_in(file, at as usize + 8 * i);
         if shows_in(file, init, goal, left, m, right, r, but, a, s) {
             return true;
         }
-        i += 1;
+        i = first_open(file, at, count, i + 1, rows, a);
     }
     false
 }
