@@ -115,7 +115,10 @@ pub fn holds(file: &File, st: &Statement) -> bool {
         before,
         after,
         right: rights
-            .map(|&set| Right { clauses: right_clauses(&file.task, file, set), before: known.all().contains(&set) })
+            .map(|&set| Right {
+                clauses: right_clauses(&file.task, file, set),
+                before: known.all().contains(&set),
+            })
             .collect(),
         right_is_after: forward,
         method: st.method,

@@ -27,7 +27,12 @@ pub fn holds(file: &File, st: &Statement) -> bool {
 
 /// Whether the action leads from one of the states to a counterexample. Where a state goes
 /// to is looked for next to where the one before it went.
-fn leads_outside<'a>(file: &File, st: &Statement, a: &Action, states: impl Iterator<Item = &'a State>) -> bool {
+fn leads_outside<'a>(
+    file: &File,
+    st: &Statement,
+    a: &Action,
+    states: impl Iterator<Item = &'a State>,
+) -> bool {
     let mut near = 0;
     let listed = match st.right.all().first() {
         Some(StateSet::Explicit(span)) => span.of(&file.states),
