@@ -8,3 +8,4 @@ pub mod SectionLaws
 pub mod ViewLaws
 pub mod KnownLaws
 pub mod SeenLaws
+pub mod OutlineKnown

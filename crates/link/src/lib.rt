@@ -1,7 +1,7 @@
 // The checker and the question for programs in C or Rust: each reply as one number.
 use meaning::Answer;
 use meaning::Reply;
-use verifier::ask::ask;
+use question::ask;
 use verifier::check;
 ghost use mathlib.Core.Path.{_≡_};
 ghost use Rattle.task.specs.Reach.{Safe};

@@ -6,7 +6,7 @@ use libc::STDIN_FILENO;
 use libc::STDOUT_FILENO;
 use meaning::Answer;
 use meaning::Reply;
-use verifier::ask::ask;
+use question::ask;
 use verifier::check;
 ghost use mathlib.Core.Path.{_≡_};
 ghost use lib.ListN.{length};

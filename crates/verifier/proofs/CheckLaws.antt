@@ -10,15 +10,12 @@ use lib.ListN.{length, drop, getD}
 use lib.Dec.{eqb}
 use borrow.Author.Tests.{ne-eqb}
 use Rattle.certificate.specs.declared.Places.{Places}
-use Rattle.certificate.specs.declared.Outline.{Outline}
-use Rattle.certificate.specs.declared.Outline.the-variants as outline
 use Rattle.certificate.specs.declared.views.Fields.{Fields}
 use Rattle.meaning.specs.Result.{Result, refuse, found, _>>=_, need, known}
 use Rattle.meaning.specs.File.{Step, File, stepAt}
 use Rattle.meaning.specs.Layout.{readFile}
-use Rattle.certificate.specs.Views.{placesOf, outlineTo, outlineOf}
-use Rattle.certificate.specs.Index.{Index, fieldsOf}
-use Rattle.certificate.specs.Known.{Known, decoded, readOr}
+use Rattle.certificate.specs.Index.{fieldsOf}
+use Rattle.certificate.specs.Known.{Known, decoded}
 use Rattle.certificate.proofs.KnownLaws.{known-read, known-steps}
 use Rattle.derivation.specs.declared.reply.StepReply.{StepReply}
 use Rattle.derivation.specs.declared.reply.StepReply.the-variants as step
@@ -114,29 +111,6 @@ module _ (f : File) where
   steps-passed k n m l h e =
       let w : checkSteps f 0 (f .steps) ≡ found tt = sym h ∙ ap (checkSteps f k) (drop-all (f .steps) k (omega (arith, m))) in
       e ∙ ap (λ (c : ℕ). replyTo (need (eqb (stepAt f (c - 1) .kind) 3) 12 (c - 1))) m ∙ rw w refl
-
--- ---- what the layout check tells
-
-module _ (bytes : List ℕ) {o : Outline} (e : o ≡ outlineOf bytes) where
-  pub lawful-known : (at : Places) (index : List ℕ) → o ≡ outline.Lawful at → Index bytes at index → Known bytes at index
-  unfolding outlineOf outlineTo decoded readOr
-  lawful-known at index g t = go (readFile bytes) refl
-    where
-      go : (x : Result File) → readFile bytes ≡ x → Known bytes at index
-      go (refuse r p) h = let z : outline.Lawful at ≡ outline.Refused r p = sym g ∙ e ∙ ap (outlineTo bytes) h in let y : _≡_ {A = ℕ} 0 1 = cc in absurd (omega arith)
-      go (found f) h =
-          let z : outline.Lawful at ≡ outline.Lawful (placesOf bytes f) = sym g ∙ e ∙ ap (outlineTo bytes) h in
-          let d : decoded bytes ≡ f = ap readOr h in
-          record { read = h ∙ ap found (sym d); places = (let y : at ≡ placesOf bytes f = cc in y) ∙ ap (placesOf bytes) (sym d); table = t }
-
-  pub refused-read : (r p : ℕ) → o ≡ outline.Refused r p → readFile bytes ≡ refuse r p
-  unfolding outlineOf outlineTo
-  refused-read r p g = go (readFile bytes) refl
-    where
-      go : (x : Result File) → readFile bytes ≡ x → readFile bytes ≡ refuse r p
-      go (refuse r' p') h = let z : outline.Refused r p ≡ outline.Refused r' p' = sym g ∙ e ∙ ap (outlineTo bytes) h in
-          let a : r' ≡ r = cc in let b : p' ≡ p = cc in h ∙ ap (λ (n : ℕ). refuse n p') a ∙ ap (λ (n : ℕ). refuse r n) b
-      go (found f) h = let z : outline.Refused r p ≡ outline.Lawful (placesOf bytes f) = sym g ∙ e ∙ ap (outlineTo bytes) h in let y : _≡_ {A = ℕ} 0 1 = cc in absurd (omega arith)
 
 -- ---- the reply to the bytes
 

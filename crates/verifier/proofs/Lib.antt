@@ -1,5 +1,1 @@
-pub mod AskLaws
-pub mod AskedLeaves
-pub mod TriedLaws
-pub mod AskableLaws
 pub mod CheckLaws

@@ -1,4 +1,4 @@
-// The checker of a whole file, and the question whether a state is in a listed set.
+// The checker of a whole file.
 use certificate::Outline;
 use certificate::Places;
 use certificate::known::fields;
@@ -17,8 +17,6 @@ ghost use Rattle.meaning.specs.Layout.{readFile};
 ghost use Rattle.certificate.specs.Known.{Known, decoded};
 ghost use Rattle.meaning.specs.declared.Reply.the-variants.{Accepted};
 ghost use Rattle.meaning.specs.Reply.{checkFile, replyTo, replyOf};
-
-pub mod ask;
 
 // Whether the last step says "unsolvable".
 fn last_step(file: &[u8], at: Places, index: &[u16; 768]) -> Reply

@@ -4,7 +4,8 @@
 use mathlib.Core.Path.{sym, _∙_, refl}
 use borrow.Author.Needs.{needs}
 use Rattle.meaning.proofs.Judgements.{accepted-is-safe}
-use Rattle.verifier.proofs.CheckLaws.{lawful-known, refused-read, read-reply, unread-reply}
+use Rattle.certificate.proofs.OutlineKnown.{lawful-known, refused-read}
+use Rattle.verifier.proofs.CheckLaws.{read-reply, unread-reply}
 use Rattle.verifier.proofs.check.Statement.{statement}
 use Rattle.verifier.proofs.check.Tie as tie
 

@@ -1,4 +1,4 @@
--- `ask::member` and `ask::try_each_action`: each names an entry of a lower number. 2e is the measure of `member` at entry e,
+-- `question::member` and `question::try_each_action`: each names an entry of a lower number. 2e is the measure of `member` at entry e,
 -- and 2e + 1 that of `try_each_action` for entry e.
 -- Assumes nothing.
 use borrow.Author.Needs.{needs}
@@ -20,15 +20,15 @@ use Rattle.certificate.proofs.KnownLaws.{known-fit, known-actions}
 use Rattle.certificate.proofs.SeenLaws.{StateSeen}
 use Rattle.meaning.specs.Sets.{stateNode, inSet, inActions}
 use Rattle.meaning.specs.Question.{hasProgression}
-use Rattle.verifier.proofs.AskLaws.{Clear, leafTags, seen, leaf-seen, clear-at, in-at, fits-at}
-use Rattle.verifier.proofs.AskedLeaves.{leaf-ordered, leaf-in}
-use Rattle.verifier.proofs.TriedLaws.{NoneOf, none-first, none-more, none-leads, one-leads, Tried, tried}
-use Rattle.verifier.proofs.ask.member.Reads as member
-use Rattle.verifier.proofs.ask.member.Kinds as member-kinds
-use Rattle.verifier.proofs.ask.+member+try_each_action.Lts-member as member-lts
-use Rattle.verifier.proofs.ask.try_each_action.Reads as try-each-action
-use Rattle.verifier.proofs.ask.try_each_action.Kinds as try-each-action-kinds
-use Rattle.verifier.proofs.ask.+member+try_each_action.Lts-try_each_action as try-each-action-lts
+use Rattle.question.proofs.AskLaws.{Clear, leafTags, seen, leaf-seen, clear-at, in-at, fits-at}
+use Rattle.question.proofs.AskedLeaves.{leaf-ordered, leaf-in}
+use Rattle.question.proofs.TriedLaws.{NoneOf, none-first, none-more, none-leads, one-leads, Tried, tried}
+use Rattle.question.proofs.member.Reads as member
+use Rattle.question.proofs.member.Kinds as member-kinds
+use Rattle.question.proofs.+member+try_each_action.Lts-member as member-lts
+use Rattle.question.proofs.try_each_action.Reads as try-each-action
+use Rattle.question.proofs.try_each_action.Kinds as try-each-action-kinds
+use Rattle.question.proofs.+member+try_each_action.Lts-try_each_action as try-each-action-lts
 use Rattle.certificate.proofs.known.action.Reads as action-reads
 use Rattle.certificate.proofs.known.state_set.Reads as state-set-reads
 use Rattle.inclusion.proofs.actions.action_marks.Reads as action-marks-reads
@@ -36,9 +36,9 @@ use Rattle.inclusion.proofs.listed.leaf_holds.Reads as leaf-holds-reads
 use Rattle.inclusion.proofs.marks.is_marked.Reads as is-marked-reads
 use Rattle.task.proofs.after.Reads as after-reads
 use Rattle.task.proofs.applies.Reads as applies-reads
-use Rattle.verifier.proofs.ask.numbers.Reads as numbers-reads
-use Rattle.verifier.proofs.ask.+member+try_each_action.{statement}
-use Rattle.verifier.proofs.ask.+member+try_each_action.Tie.{close}
+use Rattle.question.proofs.numbers.Reads as numbers-reads
+use Rattle.question.proofs.+member+try_each_action.{statement}
+use Rattle.question.proofs.+member+try_each_action.Tie.{close}
 
 abbrev μ-member : Measures 2 member-kinds.ps ℕ
 μ-member κs a = 2 * a .1 .1 .1 .0

@@ -1,4 +1,4 @@
--- `ask::is_shallow`: each call of itself asks for one level less.
+-- `question::is_shallow`: each call of itself asks for one level less.
 -- Assumes nothing.
 use borrow.Author.Needs.{needs}
 use mathlib.Core.Path.{_≡_, sym, ap₂, _∙_}
@@ -12,13 +12,13 @@ use Rattle.certificate.specs.Known.{decoded}
 use Rattle.certificate.proofs.SeenLaws.{StateSeen}
 use Rattle.meaning.specs.Sets.{rounds}
 use Rattle.meaning.specs.Question.{shallowNode, shallow}
-use Rattle.verifier.proofs.AskLaws.{seen, leaf-seen, shallow-at}
-use Rattle.verifier.proofs.ask.is_shallow.Reads as is-shallow
-use Rattle.verifier.proofs.ask.is_shallow.Kinds as is-shallow-kinds
-use Rattle.verifier.proofs.ask.+is_shallow.Lts-is_shallow as is-shallow-lts
+use Rattle.question.proofs.AskLaws.{seen, leaf-seen, shallow-at}
+use Rattle.question.proofs.is_shallow.Reads as is-shallow
+use Rattle.question.proofs.is_shallow.Kinds as is-shallow-kinds
+use Rattle.question.proofs.+is_shallow.Lts-is_shallow as is-shallow-lts
 use Rattle.certificate.proofs.known.state_set.Reads as state-set-reads
-use Rattle.verifier.proofs.ask.+is_shallow.{statement}
-use Rattle.verifier.proofs.ask.+is_shallow.Tie.{close}
+use Rattle.question.proofs.+is_shallow.{statement}
+use Rattle.question.proofs.+is_shallow.Tie.{close}
 
 abbrev μ-is-shallow : Measures 2 is-shallow-kinds.ps ℕ
 μ-is-shallow κs a = a .1 .1 .1 .1 .0

@@ -1,11 +1,11 @@
--- `ask::ask` meets its contract: a file that is not read is refused as the layout check says, and one that is read is asked.
+-- `question::ask` meets its contract: a file that is not read is refused as the layout check says, and one that is read is asked.
 -- Assumes nothing.
 use mathlib.Core.Path.{_∙_, refl}
 use borrow.Author.Needs.{needs}
-use Rattle.verifier.proofs.CheckLaws.{lawful-known, refused-read}
-use Rattle.verifier.proofs.AskableLaws.{read-answer, unread-answer}
-use Rattle.verifier.proofs.ask.ask.Statement.{statement}
-use Rattle.verifier.proofs.ask.ask.Tie as tie
+use Rattle.certificate.proofs.OutlineKnown.{lawful-known, refused-read}
+use Rattle.question.proofs.AskableLaws.{read-answer, unread-answer}
+use Rattle.question.proofs.ask.Statement.{statement}
+use Rattle.question.proofs.ask.Tie as tie
 
 answer-requires : tie.Need-answer-requires
 answer-requires c κs =

@@ -1,10 +1,10 @@
--- `ask::numbers`: the three numbers of each case.
+-- `question::numbers`: the three numbers of each case.
 -- Assumes nothing.
 use mathlib.Core.Path.{refl}
 use borrow.Author.Needs.{needs}
 use Rattle.shapes.specs.Flat.{numbersOf}
-use Rattle.verifier.proofs.ask.numbers.Statement.{statement}
-use Rattle.verifier.proofs.ask.numbers.Tie as tie
+use Rattle.question.proofs.numbers.Statement.{statement}
+use Rattle.question.proofs.numbers.Tie as tie
 
 pub numbers-spec : {M : Type 1} → statement M
 unfolding numbersOf

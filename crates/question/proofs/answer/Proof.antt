@@ -1,12 +1,12 @@
--- `ask::answer`: 13 where the question may not be asked, and else what the entry holds.
+-- `question::answer`: 13 where the question may not be asked, and else what the entry holds.
 -- Assumes nothing.
 use borrow.Author.Needs.{needs}
 use native.Mathlib.Omega.{arith}
 use mathlib.Core.Bool.{true, false}
 use Rattle.meaning.specs.Question.{answerTo}
-use Rattle.verifier.proofs.AskableLaws.{asked, refused, answered}
-use Rattle.verifier.proofs.ask.answer.Statement.{statement}
-use Rattle.verifier.proofs.ask.answer.Tie as tie
+use Rattle.question.proofs.AskableLaws.{asked, refused, answered}
+use Rattle.question.proofs.answer.Statement.{statement}
+use Rattle.question.proofs.answer.Tie as tie
 
 returns : tie.Need-returns
 returns c = refused _ _ _ (c .before .before .before .pre) _ _ _ (c .before .is-askable .ensures) (c .if1 .taken)

@@ -1,9 +1,9 @@
--- `ask::is_askable`: the four conditions, two of them by one walk.
+-- `question::is_askable`: the four conditions, two of them by one walk.
 -- Assumes nothing.
 use borrow.Author.Needs.{needs}
-use Rattle.verifier.proofs.AskableLaws.{unknown, known}
-use Rattle.verifier.proofs.ask.is_askable.Statement.{statement}
-use Rattle.verifier.proofs.ask.is_askable.Tie as tie
+use Rattle.question.proofs.AskableLaws.{unknown, known}
+use Rattle.question.proofs.is_askable.Statement.{statement}
+use Rattle.question.proofs.is_askable.Tie as tie
 
 returns : tie.Need-returns
 returns c = let s = c .before .before .before in unknown _ _ _ (s .pre) (s .args .entry) (s .args .state) (search needs)

@@ -20,7 +20,7 @@ ghost use Rattle.certificate.specs.Known.{Known, decoded};
 ghost use Rattle.meaning.specs.Sets.{inActions, regressed, inSet};
 ghost use Rattle.shapes.specs.Flat.{numbersOf};
 ghost use Rattle.meaning.specs.Question.{hasProgression, shallow, askable, answerOf};
-ghost use Rattle.verifier.specs.Asked.{answerIn};
+ghost use Rattle.question.specs.Asked.{answerIn};
 
 // Whether an entry is at most d levels deep, with no progression on the way.
 fn is_shallow(file: &[u8], at: Places, index: &[u16; 768], e: u16, d: u8) -> bool

@@ -21,7 +21,7 @@ use Rattle.certificate.proofs.KnownLaws.{known-state-sets, known-facts}
 use Rattle.meaning.specs.Sets.{inSet}
 use Rattle.meaning.specs.declared.Answer.the-variants.{Refused}
 use Rattle.meaning.specs.Question.{depth, hasProgression, askable, shallow, answerTo, answerOf}
-use Rattle.verifier.specs.Asked.{answerIn}
+use Rattle.question.specs.Asked.{answerIn}
 use Rattle.meaning.proofs.Shallow.{shortcut}
 
 -- the part of s from bit n on is 0 where s is below 2 ^ n

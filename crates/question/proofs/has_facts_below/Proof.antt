@@ -1,4 +1,4 @@
--- `ask::has_facts_below`: a state of 64 facts has none of n or above where its part from 2 ^ n on is 0.
+-- `question::has_facts_below`: a state of 64 facts has none of n or above where its part from 2 ^ n on is 0.
 -- Assumes nothing.
 use borrow.Author.Needs.{needs}
 use native.Mathlib.Omega.{arith}
@@ -6,9 +6,9 @@ use mathlib.Core.Path.{sym}
 use Prim.Native.Nat.{_^_, _<_, _≤_}
 use native.Mathlib.Nat.{pow-le-pow-right}
 use borrow.Author.Tests.{lt-ltb}
-use Rattle.verifier.proofs.AskableLaws.{high-part}
-use Rattle.verifier.proofs.ask.has_facts_below.Statement.{statement}
-use Rattle.verifier.proofs.ask.has_facts_below.Tie as tie
+use Rattle.question.proofs.AskableLaws.{high-part}
+use Rattle.question.proofs.has_facts_below.Statement.{statement}
+use Rattle.question.proofs.has_facts_below.Tie as tie
 
 returns : tie.Need-returns
 returns c = high-part (c .before .args .s) (c .before .args .n)

@@ -1,0 +1,4 @@
+pub mod AskLaws
+pub mod AskedLeaves
+pub mod TriedLaws
+pub mod AskableLaws
