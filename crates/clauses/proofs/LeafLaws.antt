@@ -54,6 +54,13 @@ module _ (bytes : List ℕ) (init goal : ℕ) (a : Action) (leaves : List ℕ) (
       (λ c p. (p .0, subst (λ (k : ℕ). p .0 < k) (count-words kindOf countOf l) (p .1), p .2 ∙ ap (pulledBy (effectOf actionOf)) (at-words bytes init goal kindOf placeOf (p .0) l)))
       u)
 
+-- the words of a leaf are its clauses
+pub words-leaf : (bytes : List ℕ) (init goal : ℕ) (a : Action) (leaves : List ℕ) (j : ℕ) → 3 ≤ getD leaves (4 * j) 0 → (c : Clause)
+    → Below (ofWords bytes (getD leaves (4 * j + 1) 0) (effectOf (acting a (eqb (getD leaves (4 * j + 3) 0) 1)))) (getD leaves (4 * j + 2) 0) c → OfLeaf bytes init goal a leaves j c
+words-leaf bytes init goal a leaves j l c p =
+    to-leaf bytes init goal a leaves j c
+    (p .0, subst (λ (k : ℕ). p .0 < k) (sym (count-words _ _ l)) (p .1), p .2 ∙ ap (pulledBy (effectOf _)) (sym (at-words bytes init goal _ _ (p .0) l)))
+
 -- a clause of a left leaf that is asked about the state before the action is a left clause as it stands
 pub before-left : (bytes : List ℕ) (init goal : ℕ) (a : Action) (leaves : List ℕ) (m kind at count i : ℕ)
     → Before leaves m kind at count → i < clauseCount kind count → OfLeaves bytes init goal a leaves m (clauseAt bytes init goal kind at i)

@@ -2,6 +2,7 @@ pub mod OneFact
 pub mod ClauseLaws
 pub mod UnitLaws
 pub mod PassLaws
+pub mod RestLaws
 pub mod CodeLaws
 pub mod ClauseShapes
 pub mod AssumeLaws

@@ -142,6 +142,18 @@ pub record Going (S : ℕ → Type 0) (x r : Assignment) : Type 0 where
 abbrev pub Alike : Assignment → Assignment → Type 0
 Alike x r = (b : Bool) → holding b x ≡ holding b r
 
+-- x says no less than b
+abbrev pub Grown : Assignment → Assignment → Type 0
+Grown b x = (s : Bool) (f : ℕ) → bit f (holding s b) ≤ bit f (holding s x)
+
+-- no literal of the clause fails in x that did not fail in b
+abbrev pub Untouched : Assignment → Assignment → Clause → Type 0
+Untouched b x c = (s : Bool) (f : ℕ) → bit f (mask s c) ≡ 1 → bit f (failing s x) ≡ 1 → bit f (failing s b) ≡ 1
+
+-- what looks at x may rest on, unless each clause is looked at: b has P settled, and x has grown from it
+abbrev pub Based : (Clause → Type 0) → Bool → Assignment → Assignment → Type 0
+Based P full b x = full ≡ false → Settled P b × Grown b x
+
 -- one look at each clause of P: where nothing changed, each is settled
 pub record Passed (P : Clause → Type 0) (x r : Assignment) : Type 0 where
   pub goes : Going (Meets P) x r

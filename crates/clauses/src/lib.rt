@@ -11,7 +11,7 @@ ghost use lib.ListN.{length};
 ghost use lib.Dec.{T};
 ghost use Rattle.task.specs.Facts.{without};
 ghost use Rattle.clauses.specs.Clauses.{clauseAt, clauseCount, sameAs, onIn, OfLeaf, OfLeaves, Refutes};
-ghost use Rattle.clauses.specs.Propagation.{acting, effectOf, pulledBy, wordsAt, Only, Below, ofWords, ofKind, LeafOf, LeftOf, Alike, Tells, Passed, Solved, Opposed, Assumed, Decided, Ready, Model, Worth, Sought, RoomAt, Roomy, Before, Usable};
+ghost use Rattle.clauses.specs.Propagation.{acting, effectOf, pulledBy, wordsAt, Only, Below, ofWords, ofKind, LeafOf, LeftOf, Alike, Tells, Untouched, Based, Settled, Passed, Solved, Opposed, Assumed, Decided, Ready, Model, Worth, Sought, RoomAt, Roomy, Before, Usable};
 
 // Facts known to be on and facts known to be off.
 pub struct Assignment {
@@ -216,6 +216,17 @@ pub fn unit(x: Assignment, c: Clause) -> Assignment
     x
 }
 
+// Whether a literal of the clause fails that did not fail in the base.
+fn touched(base: Assignment, x: Assignment, c: Clause) -> bool
+    ensures { λ r. ⌜ (r ≡ false → Untouched base x c) ⌝ }
+{
+    let p = c.positive;
+    let n = c.negative;
+    let off = without(x.off, base.off);
+    let on = without(x.on, base.on);
+    (p & off) | (n & on) != 0
+}
+
 // A look at each clause that stands in the file.
 fn pass_words(file: &[u8], at: u32, count: u32, by: Effect, start: Assignment) -> Assignment
     requires { ⌜ at + 16 * count ≤ length (now file) ⌝ }
@@ -225,6 +236,37 @@ fn pass_words(file: &[u8], at: u32, count: u32, by: Effect, start: Assignment) -
     let mut i = 0u32;
     while i < count {
         let c = pulled(by, words_in(file, at, i));
+        x = unit(x, c);
+        if x.conflict {
+            return x;
+        }
+        i += 1;
+    }
+    x
+}
+
+// The same where a base has the clauses settled: a look at those that it leaves in doubt.
+fn pass_touched(
+    file: &[u8],
+    at: u32,
+    count: u32,
+    by: Effect,
+    base: Assignment,
+    start: Assignment,
+) -> Assignment
+    requires { ⌜ at + 16 * count ≤ length (now file) ⌝ }
+    requires { ⌜ Based (Below (ofWords (now file) at by) count) false base start ⌝ }
+    ensures { λ r. ⌜ Passed (Below (ofWords (now (file .entry)) at by) count) start r ⌝ }
+{
+    let mut x = start;
+    let mut i = 0u32;
+    while i < count {
+        let w = words_in(file, at, i);
+        if !touched(base, x, w) {
+            i += 1;
+            continue;
+        }
+        let c = pulled(by, w);
         x = unit(x, c);
         if x.conflict {
             return x;
@@ -271,8 +313,17 @@ pub struct Case {
 }
 
 // A look at each clause of leaf j.
-fn pass_leaf(file: &[u8], leaves: &[u32], k: Case, j: usize, x: Assignment) -> Assignment
+fn pass_leaf(
+    file: &[u8],
+    leaves: &[u32],
+    k: Case,
+    j: usize,
+    full: bool,
+    base: Assignment,
+    x: Assignment,
+) -> Assignment
     requires { ⌜ RoomAt (now file) (now leaves) j ⌝ }
+    requires { ⌜ Based (LeafOf (now file) (now leaves) k j) full base x ⌝ }
     ensures { λ r. ⌜ Passed (LeafOf (now (file .entry)) (now (leaves .entry)) k j) x r ⌝ }
 {
     let kind = leaves[4 * j];
@@ -282,19 +333,30 @@ fn pass_leaf(file: &[u8], leaves: &[u32], k: Case, j: usize, x: Assignment) -> A
     if kind < 3 {
         return pass_any(file, k.init, k.goal, kind, at, count, by, x);
     }
-    pass_words(file, at, count, by, x)
+    if full {
+        return pass_words(file, at, count, by, x);
+    }
+    pass_touched(file, at, count, by, base, x)
 }
 
 // A look at each clause of the left leaves.
-fn pass(file: &[u8], left: &[u32], k: Case, start: Assignment) -> Assignment
+fn pass(
+    file: &[u8],
+    left: &[u32],
+    k: Case,
+    full: bool,
+    base: Assignment,
+    start: Assignment,
+) -> Assignment
     requires { ⌜ Roomy (now file) (now left) (k .m) ⌝ }
+    requires { ⌜ Based (LeftOf (now file) (now left) k) full base start ⌝ }
     ensures { λ r. ⌜ Passed (LeftOf (now (file .entry)) (now (left .entry)) k) start r ⌝ }
 {
     let m = k.m;
     let mut x = start;
     let mut j = 0;
     while j < m {
-        x = pass_leaf(file, left, k, j, x);
+        x = pass_leaf(file, left, k, j, full, base, x);
         if x.conflict {
             return x;
         }
@@ -310,14 +372,22 @@ fn alike(x: Assignment, y: Assignment) -> bool
     (x.on == y.on) & (x.off == y.off)
 }
 
-// Looks until nothing changes, or up to a conflict.
-fn solve(file: &[u8], left: &[u32], k: Case, start: Assignment) -> Assignment
+// Looks until nothing changes, or up to a conflict. What starts from a settled base needs no full look.
+fn solve(
+    file: &[u8],
+    left: &[u32],
+    k: Case,
+    full: bool,
+    base: Assignment,
+    start: Assignment,
+) -> Assignment
     requires { ⌜ Roomy (now file) (now left) (k .m) ⌝ }
+    requires { ⌜ Based (LeftOf (now file) (now left) k) full base start ⌝ }
     ensures { λ r. ⌜ Solved (LeftOf (now (file .entry)) (now (left .entry)) k) start r ⌝ }
 {
     let mut x = start;
     loop {
-        let y = pass(file, left, k, x);
+        let y = pass(file, left, k, full, base, x);
         if y.conflict {
             return y;
         }
@@ -343,7 +413,7 @@ fn opposite(x: Assignment, c: Clause) -> Assignment
 
 // The clause is taken to fail, and the left leaves are settled again where that says anything new.
 fn assume(file: &[u8], left: &[u32], k: Case, x: Assignment, c: Clause) -> Assignment
-    requires { ⌜ Roomy (now file) (now left) (k .m) ⌝ }
+    requires { ⌜ Roomy (now file) (now left) (k .m) × Settled (LeftOf (now file) (now left) k) x ⌝ }
     ensures { λ r. ⌜ Assumed (LeftOf (now (file .entry)) (now (left .entry)) k) c x r ⌝ }
 {
     let y = opposite(x, c);
@@ -353,14 +423,14 @@ fn assume(file: &[u8], left: &[u32], k: Case, x: Assignment, c: Clause) -> Assig
     if alike(x, y) {
         return y;
     }
-    solve(file, left, k, y)
+    solve(file, left, k, false, x, y)
 }
 
 // ---- the search
 
 // Fact i is told off where the left leaves can be settled so, else on. A fact that is known stays as it is.
 fn decide(file: &[u8], left: &[u32], k: Case, x: Assignment, i: u32) -> Assignment
-    requires { ⌜ (i < 64) × Roomy (now file) (now left) (k .m) ⌝ }
+    requires { ⌜ (i < 64) × Roomy (now file) (now left) (k .m) × Settled (LeftOf (now file) (now left) k) x ⌝ }
     ensures { λ r. ⌜ Decided (LeftOf (now (file .entry)) (now (left .entry)) k) i x r ⌝ }
 {
     if ((x.on | x.off) >> i) % 2 == 1 {
@@ -522,7 +592,7 @@ pub fn refuted(
         positive: high(facts),
         negative: a.pre,
     };
-    let y = solve(file, left, k, opposite(nothing, start));
+    let y = solve(file, left, k, true, nothing, opposite(nothing, start));
     if seek(file, left, right, k, 0, y) {
         return worth(file, left, k, two, y);
     }

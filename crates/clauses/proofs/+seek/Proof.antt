@@ -104,7 +104,7 @@ loop-again t c =
     )
 
 assume-requires : (t : ℕ) → seek-lts.Need-assume-requires (calls t) (seek-at t) seek′.Post Inv-loop μ-loop
-assume-requires t c κs = c .before .before .before .before .before .before .before .before .before .before .before .before .before .before .before .before .before .before .pre .1 .0 .0
+assume-requires t c κs = let s = c .before .before .before .before .before .before .before .before .before .before .before .before .before .before .before .before .before .before in (s .pre .1 .0 .0, s .pre .1 .1 .settled (c .before .before .before .before .before .before .before .before .before .before .before .before .before .before .if1 .left))
 
 add-seek : (t : ℕ) → seek-lts.Need-add-seek (calls t) (seek-at t) seek′.Post Inv-loop μ-loop
 add-seek t c =

@@ -12,10 +12,15 @@ returns c = assumed-conflict _ _ _ _ (c .before .opposite .ensures) (c .if1 .tak
 returns-2 : tie.Need-returns-2
 returns-2 c = assumed-same _ _ _ _ (c .before .before .before .opposite .ensures) (c .before .alike .ensures .finds (holds (c .if2 .taken)))
 
+solve-requires : tie.Need-solve-requires
+solve-requires c κs =
+    let s = c .before .before .before .before .before .before in
+    (s .pre .0, λ e. (s .pre .1, c .before .before .before .opposite .ensures .goes .grows))
+
 returns-3 : tie.Need-returns-3
 returns-3 c = assumed-solved _ _ _ _ (c .before .before .before .before .opposite .ensures) _ (c .solve .ensures)
 
 pub assume-spec : {M : Type 1} → statement M
 assume-spec =
     tie.close
-    (tie.spec (λ c κs. search needs) returns (λ c κs. search needs) returns-2 (λ c κs. search needs) returns-3)
+    (tie.spec (λ c κs. search needs) returns (λ c κs. search needs) returns-2 solve-requires returns-3)

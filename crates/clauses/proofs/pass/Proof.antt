@@ -3,6 +3,7 @@
 use Rattle.clauses.specs.Clauses.{OfLeaf}
 use borrow.Author.Needs.{needs}
 use Rattle.clauses.proofs.PassLaws.{passed-none, passed-more, passed-early}
+use Rattle.clauses.proofs.RestLaws.{based-on}
 use Rattle.clauses.specs.Propagation.{Below, LeafOf, Passed}
 use native.Mathlib.Omega.{arith}
 use mathlib.Core.Path.{_≡_}
@@ -11,18 +12,20 @@ use Rattle.clauses.proofs.pass.Statement.{statement}
 use Rattle.clauses.proofs.pass.Tie as tie
 
 abbrev Inv-loop : tie.InvT-loop
-Inv-loop file left k m x₀ j₀ x j = (j ≤ m) × Passed (Below (LeafOf file left k) j) x₀ x
+Inv-loop file left k full base m x₀ j₀ x j = (j ≤ m) × Passed (Below (LeafOf file left k) j) x₀ x
 
 abbrev μ-loop : tie.MeasureT-loop
-μ-loop file left k m x₀ j₀ x j = m - j
+μ-loop file left k full base m x₀ j₀ x j = m - j
 
 loop-holds : tie.Need-loop-holds Inv-loop μ-loop
 loop-holds c = (search needs, passed-none _ _)
 
 pass-leaf-requires : tie.Need-pass-leaf-requires Inv-loop μ-loop
 pass-leaf-requires c κs =
-    let s = c .before .before .before .before in
-    record { long = search needs; inside = s .pre .inside (c .before .loop .j) (search needs) }
+    let s = c .before .before .before .before in (
+      record { long = search needs; inside = s .pre .0 .inside (c .before .loop .j) (search needs) },
+      based-on (λ d q. (c .before .loop .j, search needs, q)) (s .pre .1) (c .before .loop .inv .1 .goes),
+    )
 
 returns : tie.Need-returns Inv-loop μ-loop
 returns c = passed-early (OfLeaf _ _ _ _ _) _ _ (search needs) (c .if1 .taken) (c .before .before .before .loop .inv .1) (c .before .pass-leaf .ensures)

@@ -1,6 +1,8 @@
 -- `clauses::pass_leaf` meets its contract.
 -- Assumes nothing.
-use Rattle.clauses.proofs.LeafLaws.{passed-kind, passed-words}
+use Rattle.clauses.proofs.LeafLaws.{passed-kind, passed-words, words-leaf}
+use Rattle.clauses.proofs.PassLaws.{going-none}
+use Rattle.clauses.proofs.RestLaws.{based-on}
 use borrow.Author.Needs.{needs}
 use Rattle.clauses.proofs.pass_leaf.Statement.{statement}
 use Rattle.clauses.proofs.pass_leaf.Tie as tie
@@ -12,13 +14,26 @@ returns c =
 
 pass-words-requires : tie.Need-pass-words-requires
 pass-words-requires c κs =
-    let s = c .before .before .before .before .before .before .before .before in
-    s .pre .inside (search needs)
+    let s = c .before .before .before .before .before .before .before .before .before in
+    s .pre .0 .inside (search needs)
 
 returns-2 : tie.Need-returns-2
 returns-2 c =
-    let a = c .before .before .before .before .before .before .before .before .before .args in
-    passed-words (a .file .now) (a .k .init) (a .k .goal) (a .k .action) (a .leaves .now) (a .j) (search needs) (rw (c .before .before .effect-of .ensures) at (c .pass-words .ensures))
+    let a = c .before .before .before .before .before .before .before .before .before .before .args in
+    passed-words (a .file .now) (a .k .init) (a .k .goal) (a .k .action) (a .leaves .now) (a .j) (search needs) (rw (c .before .before .before .effect-of .ensures) at (c .pass-words .ensures))
+
+pass-touched-requires : tie.Need-pass-touched-requires
+pass-touched-requires c κs =
+    let s = c .before .before .before .before .before .before .before .before .before in
+    let a = s .args in (
+      s .pre .0 .inside (search needs),
+      rw (c .before .before .effect-of .ensures) (based-on (words-leaf (a .file .now) (a .k .init) (a .k .goal) (a .k .action) (a .leaves .now) (a .j) (search needs)) (λ e. s .pre .1 (c .if2 .left)) (going-none (λ t. ⊥) _)),
+    )
+
+returns-3 : tie.Need-returns-3
+returns-3 c =
+    let a = c .before .before .before .before .before .before .before .before .before .before .args in
+    passed-words (a .file .now) (a .k .init) (a .k .goal) (a .k .action) (a .leaves .now) (a .j) (search needs) (rw (c .before .before .before .effect-of .ensures) at (c .pass-touched .ensures))
 
 pub pass-leaf-spec : {M : Type 1} → statement M
 pass-leaf-spec =
@@ -43,4 +58,6 @@ pass-leaf-spec =
     (λ c κs. search needs)
     returns
     pass-words-requires
-    returns-2)
+    returns-2
+    pass-touched-requires
+    returns-3)

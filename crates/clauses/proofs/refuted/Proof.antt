@@ -1,11 +1,15 @@
 -- `clauses::refuted` meets its contract.
 -- Assumes nothing.
 use Rattle.clauses.proofs.StartLaws.{start-ready, tells-worth, tells-none}
+use mathlib.Core.Bool.{true≢false}
 use Rattle.task.proofs.Tests.{holds}
 use Rattle.clauses.specs.Clauses.{OfLeaf}
 use borrow.Author.Needs.{needs}
 use Rattle.clauses.proofs.refuted.Statement.{statement}
 use Rattle.clauses.proofs.refuted.Tie as tie
+
+solve-requires : tie.Need-solve-requires
+solve-requires c κs = (c .before .before .before .before .before .pre .2 .room, λ e. absurd (true≢false e))
 
 seek-requires : tie.Need-seek-requires
 seek-requires c κs =
@@ -33,7 +37,7 @@ refuted-spec =
     (tie.spec
     (λ c κs. search needs)
     (λ c κs. search needs)
-    (λ c κs. search needs)
+    solve-requires
     seek-requires
     worth-requires
     returns

@@ -18,7 +18,7 @@ loop-holds : tie.Need-loop-holds Inv-loop μ-loop
 loop-holds c = (search needs, search needs, trying-none _ _ (c .before .before .pre .1 .0) (c .before .before .pre .1 .1))
 
 decide-requires : tie.Need-decide-requires Inv-loop μ-loop
-decide-requires c κs = (search needs, c .before .before .before .before .pre .0 .room)
+decide-requires c κs = (search needs, c .before .before .before .before .pre .0 .room, c .before .loop .inv .2 .settled)
 
 returns : tie.Need-returns Inv-loop μ-loop
 returns c =

@@ -2,6 +2,7 @@
 -- Assumes nothing.
 use borrow.Author.Needs.{needs}
 use Rattle.clauses.proofs.PassLaws.{going-none, going-more, solved-conflict, solved-fixed, unlike-less}
+use Rattle.clauses.proofs.RestLaws.{based-on}
 use Rattle.clauses.specs.Propagation.{LeftOf, Meets, Going}
 use Rattle.task.proofs.Tests.{holds}
 use native.Mathlib.Omega.{arith}
@@ -10,13 +11,16 @@ use Rattle.clauses.proofs.solve.Statement.{statement}
 use Rattle.clauses.proofs.solve.Tie as tie
 
 abbrev Inv-loop : tie.InvT-loop
-Inv-loop file left k x₀ x = Going (Meets (LeftOf file left k)) x₀ x
+Inv-loop file left k full base x₀ x = Going (Meets (LeftOf file left k)) x₀ x
 
 abbrev μ-loop : tie.MeasureT-loop
-μ-loop file left k x₀ x = 2 ^ 65 - (x .on + x .off)
+μ-loop file left k full base x₀ x = 2 ^ 65 - (x .on + x .off)
 
 loop-holds : tie.Need-loop-holds Inv-loop μ-loop
 loop-holds c = going-none _ _
+
+pass-requires : tie.Need-pass-requires Inv-loop μ-loop
+pass-requires c κs = let s = c .before .before .before in (s .pre .0, based-on (λ d q. q) (s .pre .1) (c .loop .inv))
 
 returns : tie.Need-returns Inv-loop μ-loop
 returns c = solved-conflict (c .before .before .loop .inv) (c .before .pass .ensures) (c .if1 .taken)
@@ -37,7 +41,7 @@ solve-spec =
     Inv-loop
     μ-loop
     loop-holds
-    (λ c κs. search needs)
+    pass-requires
     returns
     (λ c κs. search needs)
     returns-2
