@@ -224,15 +224,13 @@ fn first_open(file: &[u8], at: u32, count: u32, from: usize, rows: Rows, a: Acti
     let mut i = from;
     while i < states {
         let s = u64_in(file, first + 8 * i);
-        if !applies(a, s) {
-            i += 1;
-            continue;
+        if applies(a, s) {
+            let k = find(file, place, many, near, after(a, s));
+            if many as usize <= k {
+                return i;
+            }
+            near = k + 1;
         }
-        let k = find(file, place, many, near, after(a, s));
-        if many as usize <= k {
-            return i;
-        }
-        near = k + 1;
         i += 1;
     }
     i

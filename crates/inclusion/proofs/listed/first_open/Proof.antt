@@ -6,7 +6,6 @@ use mathlib.Core.Logic.{inl, inr}
 use native.Mathlib.Omega.{arith}
 use lib.Dec.{ltb, lt→ltb}
 use borrow.Author.Needs.{needs}
-use borrow.Author.Tests.{not-true}
 use Rattle.task.proofs.Tests.{is-true}
 use Rattle.inclusion.specs.Search.{Held}
 use Rattle.inclusion.proofs.SearchLaws.{word, word-in, from-more}
@@ -35,7 +34,12 @@ loop-again c =
       search needs,
       search needs,
       from-more (λ k. Held (a .file .now) (a .rows) (a .a) (word (a .file .now) (a .at) k)) (a .from) (v .i) (v .inv .2)
-          (subst (Held (a .file .now) (a .rows) (a .a)) e (inl (sym (c .before .applies .ensures) ∙ not-true _ (c .if1 .taken)))),
+          (subst (Held (a .file .now) (a .rows) (a .a)) e (elim (c .if1 .came) [
+            | inl w ↦
+                let l : w .2 .result < a .rows .count = omega (arith, w .3 .left) in
+                inr (rw (w .1 .ensures) at (sym (w .2 .ensures) ∙ is-true (ltb (w .2 .result) (a .rows .count)) (lt→ltb (w .2 .result) (a .rows .count) l)))
+            | inr w ↦ inl (sym (c .before .applies .ensures) ∙ w .0 .left)
+          ])),
     )
 
 find-requires : tie.Need-find-requires Inv-loop μ-loop
@@ -43,20 +47,6 @@ find-requires c κs = c .before .before .before .before .before .before .before 
 
 returns : tie.Need-returns Inv-loop μ-loop
 returns c = c .before .before .before .before .before .before .before .loop .inv
-
-loop-again-2 : tie.Need-loop-again-2 Inv-loop μ-loop
-loop-again-2 c =
-    let s = c .before .before .before .before .before .before .before .before .before in
-    let a = s .args in
-    let v = c .before .before .before .before .before .before .before .loop in
-    let e = word-in (a .file .now) (a .at) (a .count) (v .i) (s .pre .1) (search needs) (c .before .before .before .before .before .u64-in .ensures) in
-    let f = c .before .find in
-    let l : f .result < a .rows .count = search needs in (
-      search needs,
-      search needs,
-      from-more (λ k. Held (a .file .now) (a .rows) (a .a) (word (a .file .now) (a .at) k)) (a .from) (v .i) (v .inv .2)
-          (subst (Held (a .file .now) (a .rows) (a .a)) e (inr (rw (c .before .before .after .ensures) at (sym (f .ensures) ∙ is-true (ltb (f .result) (a .rows .count)) (lt→ltb (f .result) (a .rows .count) l))))),
-    )
 
 returns-2 : tie.Need-returns-2 Inv-loop μ-loop
 returns-2 c = c .before .loop .inv
@@ -72,9 +62,6 @@ first-open-spec =
     (λ c. search needs)
     u64-in-requires
     (λ c κs. search needs)
-    (λ c. search needs)
-    (λ c. search needs)
-    loop-again
     (λ c κs. search needs)
     find-requires
     (λ c. search needs)
@@ -82,5 +69,5 @@ first-open-spec =
     (λ c. search needs)
     (λ c. search needs)
     (λ c. search needs)
-    loop-again-2
+    loop-again
     returns-2)
