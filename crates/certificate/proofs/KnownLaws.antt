@@ -1,6 +1,6 @@
 -- What is known of a checked file, as its entries, actions and steps.
 -- Assumes nothing.
-use mathlib.Core.Path.{_≡_, refl, sym, ap, _∙_, subst}
+use mathlib.Core.Path.{_≡_, refl, sym, ap, subst}
 use Prim.Native.Nat.{ℕ, zero, suc, _+_, _*_, _≤_, _<_}
 use native.Mathlib.Nat.{not-suc-le-zero, le-of-suc-le-suc}
 use mathlib.Core.List.{List, [], _∷_}
@@ -9,8 +9,8 @@ use Rattle.task.specs.Task.{actionAt}
 use Rattle.certificate.specs.declared.Places.{Places}
 use Rattle.certificate.specs.declared.ActionEntry.the-variants.{All}
 use Rattle.certificate.specs.declared.StateEntry.the-variants.{Empty}
-use Rattle.meaning.specs.File.{File, actionSetAt, stateSetAt, stepAt}
-use Rattle.certificate.specs.Views.{placesOf, stateEntryAt, actionEntryAt, viewOf, viewOfBasic, viewOfActions}
+use Rattle.meaning.specs.File.{actionSetAt, stateSetAt, stepAt}
+use Rattle.certificate.specs.Views.{placesOf, viewOf, viewOfBasic, viewOfActions}
 use Rattle.certificate.specs.Index.{actionIn, fieldsAt, fieldsOf, Index}
 use Rattle.certificate.specs.Known.{Known, decoded, statePlace, actionPlace}
 use Rattle.certificate.proofs.EntryLaws.{StateSetStands, ActionSetStands}

@@ -6,7 +6,7 @@ use native.Mathlib.Omega.{arith}
 use mathlib.Core.Bool.{_&&_}
 use mathlib.Core.List.{List, [], _∷_}
 use lib.ListN.{length, getD}
-use lib.Dec.{eqb, leb, leb→le}
+use lib.Dec.{eqb, leb}
 use Rattle.task.specs.Task.{Task}
 use Rattle.meaning.specs.Result.{found}
 use Rattle.meaning.specs.Bytes.{number}
@@ -14,7 +14,8 @@ use Rattle.meaning.specs.File.{ActionSet, StateSet, Step, File}
 use Rattle.meaning.specs.Layout.{items, field, count, mask, action, step, Kind, actionKinds, stateKinds, entry, entries, readTask, readFile}
 use Rattle.certificate.specs.Views.{afterEntry, entryPlace, placesOf}
 use Rattle.certificate.specs.Index.{actionIn}
-use Rattle.meaning.proofs.Results.{found-same, bind-case, need-case, and-out}
+use Rattle.meaning.proofs.Reading.{file-walked}
+use Rattle.meaning.proofs.Results.{found-same, bind-case, need-case}
 use Rattle.certificate.proofs.NumberLaws.{number-at}
 use Rattle.certificate.proofs.ItemLaws.{Items, items-stand, count-stands, action-stands, stepRead, step-stands}
 use Rattle.certificate.proofs.EntryLaws.{StateSetStands, ActionSetStands, Ends, state-set-stands, action-set-stands}
@@ -122,24 +123,14 @@ parts-at bytes t es ss ks a s k a! s! k! short acts aes sss kks end =
 
 -- a file that is read has its parts where the places say
 pub file-parts : (bytes : List ℕ) (f : File) → readFile bytes ≡ found f → Parts bytes f
-unfolding readFile
 file-parts bytes f e =
-    need-case (leb 4 (length bytes) && leb (length bytes) 65536) 1 0 _ f e λ l e₁.
-    need-case (eqb (number 4 bytes 0 + 4) (length bytes)) 1 0 _ f e₁ λ _ e₂.
-    bind-case (readTask bytes) _ f e₂ λ t t! e₃.
-    bind-case (count bytes 0 256 (t .1)) _ f e₃ λ ac ac! e₄.
-    bind-case (entries bytes (actionKinds bytes (length (t .0 .actions))) 0 (t .1 + 2) ac) _ f e₄ λ es es! e₅.
-    bind-case (count bytes 0 512 (es .1)) _ f e₅ λ sc sc! e₆.
-    bind-case (entries bytes (stateKinds bytes (t .0 .facts) ac) 0 (es .1 + 2) sc) _ f e₆ λ ss ss! e₇.
-    bind-case (count bytes 1 2048 (ss .1)) _ f e₇ λ kc kc! e₈.
-    bind-case (items (step bytes) 12 (ss .1 + 2) kc) _ f e₈ λ ks ks! e₉.
-    need-case (leb (length bytes) (ss .1 + 2 + 12 * kc)) 3 (ss .1 + 2 + 12 * kc) _ f e₉ λ last q.
-    let short = and-out (leb 4 (length bytes)) (leb (length bytes) 65536) l .1 in
-    let a = task-stands bytes t t! in
-    let b = entries-stand bytes (ActionSetStands bytes) (actionKinds bytes (length (t .0 .actions))) (action-set-stands bytes (length (t .0 .actions))) ac 0 (t .1 + 2) es (count-stands bytes 0 256 (t .1) ac ac! .0) es! in
-    let c = entries-stand bytes (StateSetStands bytes) (stateKinds bytes (t .0 .facts) ac) (state-set-stands bytes (t .0 .facts) ac) sc 0 (es .1 + 2) ss (count-stands bytes 0 512 (es .1) sc sc! .0) ss! in
-    let d = items-stand bytes 12 (stepRead bytes) (step bytes) (step-stands bytes) kc (ss .1 + 2) ks (count-stands bytes 1 2048 (ss .1) kc kc! .0) ks! in
+    let w = file-walked bytes f e in
+    let t = w .t in
+    let a = task-stands bytes t (w .t!) in
+    let b = entries-stand bytes (ActionSetStands bytes) (actionKinds bytes (length (t .0 .actions))) (action-set-stands bytes (length (t .0 .actions))) (w .ac) 0 (t .1 + 2) (w .es) (count-stands bytes 0 256 (t .1) (w .ac) (w .ac!) .0) (w .es!) in
+    let c = entries-stand bytes (StateSetStands bytes) (stateKinds bytes (t .0 .facts) (w .ac)) (state-set-stands bytes (t .0 .facts) (w .ac)) (w .sc) 0 (w .es .1 + 2) (w .ss) (count-stands bytes 0 512 (w .es .1) (w .sc) (w .sc!) .0) (w .ss!) in
+    let d = items-stand bytes 12 (stepRead bytes) (step bytes) (step-stands bytes) (w .kc) (w .ss .1 + 2) (w .ks) (count-stands bytes 1 2048 (w .ss .1) (w .kc) (w .kc!) .0) (w .ks!) in
     let n = d .0 in
-    let end : length bytes ≤ ss .1 + 2 + 12 * length ks = (let h = leb→le (length bytes) (ss .1 + 2 + 12 * kc) last in omega arith) in
-    subst (Parts bytes) (found-same q)
-    (parts-at bytes (t .0) (es .0) (ss .0) ks (t .1) (es .1) (ss .1) (a .0) (b .1) (c .1) (leb→le (length bytes) 65536 short) (a .1) (b .2) (c .2) (d .1) end)
+    let l = w .last in
+    subst (Parts bytes) (w .whole)
+    (parts-at bytes (t .0) (w .es .0) (w .ss .0) (w .ks) (t .1) (w .es .1) (w .ss .1) (a .0) (b .1) (c .1) (w .short) (a .1) (b .2) (c .2) (d .1) (omega arith))

@@ -1,23 +1,20 @@
 -- From a view back to what a file that is read holds: the entry that the code sees in a case is the file's entry of that kind, and its span holds the items.
 -- Assumes nothing.
 use mathlib.Core.Path.{_≡_, refl, sym, _∙_, subst}
-use Prim.Native.Nat.{ℕ, _+_, _<_}
+use Prim.Native.Nat.{ℕ}
 use mathlib.Core.List.{List}
-use lib.ListN.{length, getD}
+use lib.ListN.{length}
 use Rattle.meaning.specs.declared.Clause.{Clause}
 use Rattle.certificate.specs.declared.Span.{Span}
 use Rattle.certificate.specs.declared.ActionEntry.{ActionEntry}
 use Rattle.certificate.specs.declared.ActionEntry.the-variants.{All, Listed, Either}
 use Rattle.certificate.specs.declared.StateEntry.{StateEntry}
 use Rattle.certificate.specs.declared.StateEntry.the-variants.{Empty, Init, Goal, Explicit, Horn, TwoCnf, Complement, Intersection, Union, Progression, Regression}
-use Rattle.meaning.specs.Result.{found}
-use Rattle.meaning.specs.File.{ActionSet, all, listed, either, Basic, empty, init, goal, explicit, horn, twoCnf, StateSet, basic, complement, intersection, union, progression, regression, File, actionSetAt, stateSetAt}
-use Rattle.meaning.specs.Layout.{readFile}
-use Rattle.certificate.specs.Views.{numberAt, stateEntryAt, actionEntryAt, placesOf, span, viewOfBasic, viewOf, viewOfActions}
-use Rattle.certificate.specs.Index.{clauseAt, Index}
+use Rattle.meaning.specs.File.{ActionSet, all, listed, either, Basic, empty, init, goal, explicit, horn, twoCnf, StateSet, basic, complement, intersection, union, progression, regression}
+use Rattle.certificate.specs.Views.{numberAt, actionEntryAt, span, viewOfBasic, viewOf, viewOfActions}
+use Rattle.certificate.specs.Index.{clauseAt}
 use Rattle.certificate.proofs.ItemLaws.{Items}
-use Rattle.certificate.proofs.EntryLaws.{BasicItems, StateItems, ActionItems, StateSetStands, ActionSetStands}
-use Rattle.certificate.proofs.ViewLaws.{indexed-state-set, indexed-action-set}
+use Rattle.certificate.proofs.EntryLaws.{BasicItems, StateItems, ActionItems, ActionSetStands}
 
 -- the span counts the items, and they stand in it
 pub record Holds {A : Type 0} (bytes : List ℕ) (size : ℕ) (at : ℕ → A) (s : Span) (xs : List A) : Type 0 where
@@ -68,16 +65,5 @@ module _ (bytes : List ℕ) where
   actions-view-seen p (listed is) h = (is, refl, record { count = refl; items = h })
   actions-view-seen p (either a b) h = refl
 
-  pub state-seen : (p : ℕ) (x : StateSet) → StateSetStands bytes p x → (v : StateEntry) → v ≡ stateEntryAt bytes p → StateSeen v x
-  state-seen p x s v e = subst (λ w. StateSeen w x) (sym (e ∙ s .view)) (view-seen p x (s .items))
-
   pub actions-seen : (p : ℕ) (x : ActionSet) → ActionSetStands bytes p x → (v : ActionEntry) → v ≡ actionEntryAt bytes p → ActionsSeen v x
   actions-seen p x s v e = subst (λ w. ActionsSeen w x) (sym (e ∙ s .view)) (actions-view-seen p x (s .items))
-
--- what the code reads by the table of places
-module _ (bytes : List ℕ) (f : File) (r : readFile bytes ≡ found f) (index : List ℕ) (t : Index bytes (placesOf bytes f) index) where
-  pub state-set-seen : (e : ℕ) → e < length (f .stateSets) → (v : StateEntry) → v ≡ stateEntryAt bytes (getD index (256 + e) 0) → StateSeen bytes v (stateSetAt f e)
-  state-set-seen e l = state-seen bytes (getD index (256 + e) 0) (stateSetAt f e) (indexed-state-set bytes f r index t e l)
-
-  pub action-set-seen : (e : ℕ) → e < length (f .actionSets) → (v : ActionEntry) → v ≡ actionEntryAt bytes (getD index e 0) → ActionsSeen bytes v (actionSetAt f e)
-  action-set-seen e l = actions-seen bytes (getD index e 0) (actionSetAt f e) (indexed-action-set bytes f r index t e l)

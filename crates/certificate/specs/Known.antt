@@ -4,7 +4,6 @@ use mathlib.Core.Path.{_≡_}
 use Prim.Native.Nat.{ℕ, _+_}
 use mathlib.Core.List.{List, []}
 use lib.ListN.{getD}
-use Rattle.task.specs.Task.{Task}
 use Rattle.certificate.specs.declared.Places.{Places}
 use Rattle.meaning.specs.Result.{Result, refuse, found}
 use Rattle.meaning.specs.File.{File}

@@ -1,7 +1,7 @@
 -- What the code is given of a file: where the parts are, and an entry or a step as a value, with the places of its items.
 -- Assumes nothing.
 use Prim.Native.Nat.{ℕ, zero, suc, _+_, _-_, _*_, _/_}
-use mathlib.Core.Bool.{Bool, true, false}
+use mathlib.Core.Bool.{true, false}
 use mathlib.Core.List.{List, [], _∷_}
 use lib.ListN.{length, getD}
 use Rattle.certificate.specs.declared.Places.{Places}
@@ -16,7 +16,7 @@ use Rattle.certificate.specs.declared.Judgement.{Judgement}
 use Rattle.certificate.specs.declared.Judgement.the-variants.{Dead, Within, ActionsWithin, Unsolvable}
 use Rattle.meaning.specs.Result.{Result, refuse, found}
 use Rattle.meaning.specs.Bytes.{number, inside}
-use Rattle.meaning.specs.File.{ActionSet, all, listed, either, Basic, empty, init, goal, explicit, horn, twoCnf, StateSet, basic, complement, intersection, union, progression, regression, Step, File}
+use Rattle.meaning.specs.File.{ActionSet, all, listed, either, Basic, empty, init, goal, explicit, horn, twoCnf, StateSet, basic, complement, intersection, union, progression, regression, File}
 use Rattle.meaning.specs.Layout.{readFile}
 
 -- the number in the k bytes from place p, and 0 where they run past the end

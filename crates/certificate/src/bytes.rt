@@ -19,7 +19,7 @@ fn four(a: u8, b: u8, c: u8, d: u8) -> u32
 }
 
 // The byte at a place of the file.
-pub fn byte_in(file: &[u8], at: usize) -> u8
+pub(crate) fn byte_in(file: &[u8], at: usize) -> u8
     requires { ⌜ at + 1 ≤ length (now file) ⌝ }
     ensures { λ r. ⌜ r ≡ number 1 (now (file .entry)) at ⌝ }
 {
@@ -27,7 +27,7 @@ pub fn byte_in(file: &[u8], at: usize) -> u8
 }
 
 // The number in the two, four or eight bytes from a place that has them.
-pub fn u16_in(file: &[u8], at: usize) -> u16
+pub(crate) fn u16_in(file: &[u8], at: usize) -> u16
     requires { ⌜ at + 2 ≤ length (now file) ⌝ }
     ensures { λ r. ⌜ r ≡ number 2 (now (file .entry)) at ⌝ }
 {

@@ -105,14 +105,14 @@ fn actions_of(h: Head) -> ActionEntry
 }
 
 // The state set that stands at a place.
-pub fn state_entry(file: &[u8], at: u16) -> StateEntry
+pub(crate) fn state_entry(file: &[u8], at: u16) -> StateEntry
     ensures { λ r. ⌜ r ≡ stateEntryAt (now (file .entry)) at ⌝ }
 {
     state_of(head_at(file, at))
 }
 
 // The action set that stands at a place.
-pub fn action_entry(file: &[u8], at: u16) -> ActionEntry
+pub(crate) fn action_entry(file: &[u8], at: u16) -> ActionEntry
     ensures { λ r. ⌜ r ≡ actionEntryAt (now (file .entry)) at ⌝ }
 {
     actions_of(head_at(file, at))
@@ -131,7 +131,7 @@ pub fn judgement_of(kind: u8, a: u16, b: u16) -> Judgement
 }
 
 // The fields of the step whose first byte is at a place, within the file.
-pub fn fields_in(file: &[u8], at: u32) -> Fields
+pub(crate) fn fields_in(file: &[u8], at: u32) -> Fields
     requires { ⌜ at + 12 ≤ length (now file) ⌝ }
     ensures { λ r. ⌜ r ≡ fieldsAt (now (file .entry)) at ⌝ }
 {
@@ -168,7 +168,7 @@ pub fn step_of(fields: Fields) -> Step
 }
 
 // The action with a number.
-pub fn action_at(file: &[u8], i: u16) -> Action
+pub(crate) fn action_at(file: &[u8], i: u16) -> Action
     ensures { λ r. ⌜ r ≡ actionIn (now (file .entry)) (24 + 24 * i) ⌝ }
 {
     let p = 24 + 24 * i as usize;
@@ -186,7 +186,7 @@ fn capped_at(at: usize) -> u16
 }
 
 // Puts the places of `count` entries, of which the first is at `first`, into a table at `from` and after it, as far as the table goes.
-pub fn index_entries(file: &[u8], first: u32, count: u16, index: &mut [u16], from: u16)
+pub(crate) fn index_entries(file: &[u8], first: u32, count: u16, index: &mut [u16], from: u16)
     ensures { λ _. ⌜ Indexed (now (file .entry)) first count from (now (index .entry)) (now (index .exit)) ⌝ }
 {
     let mut at = first as usize;
@@ -211,7 +211,7 @@ pub fn index_file(file: &[u8], at: Places, index: &mut [u16; 768])
 }
 
 // The state set with a number, by the table.
-pub fn state_set(file: &[u8], index: &[u16], e: u16) -> StateEntry
+pub(crate) fn state_set(file: &[u8], index: &[u16], e: u16) -> StateEntry
     ensures { λ r. ⌜ r ≡ stateEntryAt (now (file .entry)) (getD (now (index .entry)) (256 + e) 0) ⌝ }
 {
     let i = 256 + e as usize;
@@ -222,7 +222,7 @@ pub fn state_set(file: &[u8], index: &[u16], e: u16) -> StateEntry
 }
 
 // The action set with a number, by the table.
-pub fn action_set(file: &[u8], index: &[u16], e: u16) -> ActionEntry
+pub(crate) fn action_set(file: &[u8], index: &[u16], e: u16) -> ActionEntry
     ensures { λ r. ⌜ r ≡ actionEntryAt (now (file .entry)) (getD (now (index .entry)) e 0) ⌝ }
 {
     let i = e as usize;

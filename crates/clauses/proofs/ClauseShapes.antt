@@ -14,7 +14,6 @@ use Rattle.task.proofs.Tests.{excluded}
 use Rattle.task.proofs.Bits.{bit, bit-without}
 use Rattle.meaning.specs.declared.Clause.{Clause}
 use Rattle.meaning.specs.Layout.{onesIn, hornRule, twoCnfRule}
-use Rattle.meaning.specs.Sets.{meets}
 use Rattle.task.specs.Inner.{has}
 use Rattle.clauses.specs.Clauses.{metBy, pulled, clauseAt, sameAs, onIn}
 use Rattle.clauses.specs.Propagation.{wordsAt, ruleOf}

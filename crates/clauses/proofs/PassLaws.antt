@@ -13,7 +13,7 @@ use Rattle.task.proofs.Tests.{and-left, and-right, and-both, is-true, same}
 use Rattle.task.proofs.Bits.{bit, bit-or, same-bits}
 use Rattle.meaning.specs.declared.Clause.{Clause}
 use Rattle.clauses.specs.declared.Assignment.{Assignment}
-use Rattle.clauses.specs.Propagation.{Below, Meets, Settled, Alike, Tells, Going, Passed, Solved}
+use Rattle.clauses.specs.Propagation.{mask, failing, Below, Meets, Wide, Settled, Alike, Tells, Going, Passed, Solved}
 
 -- ---- what goes on
 
@@ -34,24 +34,29 @@ going-more h u v =
 pub going-under : {S S′ : ℕ → Type 0} {x r : Assignment} → ((s : ℕ) → S′ s → S s) → Going S x r → Going S′ x r
 going-under h u = record { sound = λ s m g. u .sound s (h s m) g; grows = u .grows; calm = u .calm; apart = u .apart }
 
--- ---- settled clauses stay so where the assignments say the same
+-- ---- settled clauses stay so
 
+-- two literals that are not known to fail, where no literal of the clause comes to fail
+pub wide-as : {x r : Assignment} {c : Clause} → ((s : Bool) (f : ℕ) → bit f (mask s c) ≡ 1 → bit f (failing s x) ≡ 0 → bit f (failing s r) ≡ 0) → Wide x c → Wide r c
+wide-as h t = record {
+  fits = t .fits;
+  side₁ = t .side₁;
+  fact₁ = t .fact₁;
+  side₂ = t .side₂;
+  fact₂ = t .fact₂;
+  differ = t .differ;
+  has₁ = t .has₁;
+  has₂ = t .has₂;
+  open₁ = h (t .side₁) (t .fact₁) (t .has₁) (t .open₁);
+  open₂ = h (t .side₂) (t .fact₂) (t .has₂) (t .open₂);
+}
+
+-- where the assignments say the same
 pub alike : {x r : Assignment} {P : Clause → Type 0} → Alike x r → Settled P x → Settled P r
 alike {x} {r} e h c p =
     elim (h c p) [
       | inl t ↦ inl (record { side = t .side; fact = t .fact; has = t .has; holds = ap (bit (t .fact)) (sym (e (t .side))) ∙ t .holds })
-      | inr t ↦ inr (record {
-        fits = t .fits;
-        side₁ = t .side₁;
-        fact₁ = t .fact₁;
-        side₂ = t .side₂;
-        fact₂ = t .fact₂;
-        differ = t .differ;
-        has₁ = t .has₁;
-        has₂ = t .has₂;
-        open₁ = ap (bit (t .fact₁)) (sym (e (not (t .side₁)))) ∙ t .open₁;
-        open₂ = ap (bit (t .fact₂)) (sym (e (not (t .side₂)))) ∙ t .open₂;
-      })
+      | inr t ↦ inr (wide-as (λ s f _ o. ap (bit f) (sym (e (not s))) ∙ o) t)
     ]
 
 -- ---- one look at each

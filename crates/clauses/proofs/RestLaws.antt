@@ -1,22 +1,23 @@
 -- A clause with no literal that fails anew stays settled, and so needs no look.
 -- Assumes nothing.
-use Prim.Native.Nat.{ℕ, _-_, _≤_, _<_, _^_, min}
-use mathlib.Core.Path.{_≡_, refl, sym, ap, subst, _∙_}
+use Prim.Native.Nat.{ℕ, _-_, _<_, _^_}
+use mathlib.Core.Path.{_≡_, refl, sym, ap, subst}
 use mathlib.Core.Bool.{Bool, true, false, not, true≢false, _||_}
 use mathlib.Core.Logic.{_⊎_, inl, inr}
 use native.Mathlib.Omega.{arith}
 use native.Mathlib.Decide.{decLt}
 use native.Mathlib.Nat.{le-refl, le-trans}
 use lib.Bits.{bitAnd, bitOr}
-use lib.Dec.{T, eqb}
+use lib.Dec.{eqb}
 use borrow.Author.Tests.{eqb-true, not-false}
 use Rattle.task.specs.Facts.{without}
 use Rattle.task.proofs.Bits.{bit, bit-le, bit-none, bit-and, bit-or, bit-without}
 use Rattle.meaning.specs.declared.Clause.{Clause}
 use Rattle.clauses.specs.declared.Assignment.{Assignment}
 use Rattle.clauses.specs.declared.Effect.{Effect}
-use Rattle.clauses.specs.Propagation.{mask, holding, failing, pulledBy, Only, Meets, Held, Wide, Settled, Going, Passed, Grown, Untouched, Based}
+use Rattle.clauses.specs.Propagation.{mask, holding, failing, pulledBy, Only, Held, Wide, Settled, Going, Passed, Grown, Untouched, Based}
 use Rattle.clauses.proofs.OneFact.{bit-same}
+use Rattle.clauses.proofs.PassLaws.{wide-as}
 
 -- ---- what the test tells
 
@@ -65,19 +66,7 @@ always x =
 
 stays : (b x : Assignment) (c : Clause) → Grown b x → Untouched b x c → Held b c ⊎ Wide b c → Held x c ⊎ Wide x c
 stays b x c g u (inl t) = inl (record { side = t .side; fact = t .fact; has = t .has; holds = omega (arith, t .holds, g (t .side) (t .fact), bit-le (t .fact) (holding (t .side) x)) })
-stays b x c g u (inr t) =
-    inr (record {
-      fits = t .fits;
-      side₁ = t .side₁;
-      fact₁ = t .fact₁;
-      side₂ = t .side₂;
-      fact₂ = t .fact₂;
-      differ = t .differ;
-      has₁ = t .has₁;
-      has₂ = t .has₂;
-      open₁ = still (t .side₁) (t .fact₁) (t .has₁) (t .open₁);
-      open₂ = still (t .side₂) (t .fact₂) (t .has₂) (t .open₂);
-    })
+stays b x c g u (inr t) = inr (wide-as still t)
   where
     still : (s : Bool) (f : ℕ) → bit f (mask s c) ≡ 1 → bit f (failing s b) ≡ 0 → bit f (failing s x) ≡ 0
     still s f h o =

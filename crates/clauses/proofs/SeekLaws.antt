@@ -16,7 +16,7 @@ use Rattle.meaning.specs.declared.Clause.{Clause}
 use Rattle.clauses.specs.declared.Assignment.{Assignment}
 use Rattle.meaning.specs.Sets.{meets}
 use Rattle.clauses.specs.Clauses.{OfLeaves}
-use Rattle.clauses.specs.Propagation.{value, failing, Apart, Meets, Fails, Settled, Tells, Going, Assumed, Decided, Fillable, Ready, Model, Witness, Candidate, Sought, Usable}
+use Rattle.clauses.specs.Propagation.{value, failing, Apart, Settled, Tells, Going, Assumed, Decided, Fillable, Ready, Model, Witness, Candidate, Sought, Usable}
 use Rattle.clauses.proofs.OneFact.{bit-same, bit-only}
 use Rattle.clauses.proofs.ClauseLaws.{Has, met-by}
 use Rattle.clauses.proofs.CodeLaws.{count-words, pulled-by}

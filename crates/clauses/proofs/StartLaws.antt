@@ -11,7 +11,7 @@ use lib.Bits.{bitAnd, mask-lt}
 use lib.Dec.{T}
 use Rattle.task.specs.declared.Action.{Action}
 use Rattle.task.specs.Facts.{allOn}
-use Rattle.task.proofs.Tests.{not-of, is-true}
+use Rattle.task.proofs.Tests.{not-of}
 use Rattle.task.proofs.Bits.{bit, bit-le, bit-none, bit-high, bit-not, bit-and, same-bits, all-on-at, all-on-of}
 use Rattle.meaning.specs.declared.Clause.{Clause}
 use Rattle.clauses.specs.declared.Assignment.{Assignment}

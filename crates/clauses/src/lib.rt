@@ -97,7 +97,7 @@ fn words_in(file: &[u8], at: u32, i: u32) -> Clause
 }
 
 // How many clauses a leaf of a kind has; `count` is how many stand in the file.
-pub fn clause_count(kind: u32, count: u32) -> u32
+fn clause_count(kind: u32, count: u32) -> u32
     ensures { λ r. ⌜ r ≡ clauseCount kind count ⌝ }
 {
     if kind == 0 {
@@ -110,7 +110,7 @@ pub fn clause_count(kind: u32, count: u32) -> u32
 }
 
 // Clause i of a leaf.
-pub fn clause_at(file: &[u8], init: u64, goal: u64, kind: u32, at: u32, i: u32) -> Clause
+fn clause_at(file: &[u8], init: u64, goal: u64, kind: u32, at: u32, i: u32) -> Clause
     requires { ⌜ (kind < 3 → i < 64) ⌝ }
     ensures { λ r. ⌜ r ≡ clauseAt (now (file .entry)) init goal kind at i ⌝ }
 {
@@ -174,7 +174,7 @@ fn pulled(by: Effect, c: Clause) -> Clause
 // ---- propagation
 
 // A look at one clause: where one literal is left it is told, and where none is there is a conflict.
-pub fn unit(x: Assignment, c: Clause) -> Assignment
+fn unit(x: Assignment, c: Clause) -> Assignment
     ensures { λ r. ⌜ Passed (Only c) x r ⌝ }
 {
     let on = x.on;

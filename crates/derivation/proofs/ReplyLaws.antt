@@ -1,7 +1,7 @@
 -- The reply to one step, from what the code finds.
 -- Assumes nothing.
 use mathlib.Core.Path.{_≡_, refl, sym, ap, _∙_, subst}
-use mathlib.Core.Option.{Option, none, some}
+use mathlib.Core.Option.{Option, some}
 use Prim.Native.Nat.{ℕ, zero, suc, _-_, _≤_, _<_}
 use native.Mathlib.Omega.{arith}
 use mathlib.Core.Bool.{Bool, true, false, _&&_}
@@ -9,7 +9,7 @@ use lib.ListN.{length, take, drop, getElem?}
 use lib.Dec.{T, eqb, ltb, ltb→lt}
 use Rattle.task.specs.Reach.{every}
 use Rattle.task.proofs.Tests.{and-left, and-right, holds}
-use Rattle.meaning.specs.Result.{Result, refuse, found, _>>=_, need}
+use Rattle.meaning.specs.Result.{_>>=_, need}
 use Rattle.certificate.specs.declared.views.Fields.{Fields}
 use Rattle.meaning.specs.File.{Step, File, stepAt}
 use Rattle.certificate.specs.Index.{fieldsOf}
@@ -18,7 +18,7 @@ use Rattle.inclusion.specs.declared.Verdict.{Verdict}
 use Rattle.inclusion.specs.Verdict.{verdictBy, verdictOr, verdictOf}
 use Rattle.derivation.specs.declared.reply.StepReply.{StepReply}
 use Rattle.derivation.specs.declared.reply.StepReply.the-variants.{Passed, Refused}
-use Rattle.meaning.specs.Step.{Check, statement, derivation, judgementKind, premiseCount, allRules, ruleAt, entriesFit, wellFormed, checkBy, checkStep}
+use Rattle.meaning.specs.Step.{statement, derivation, judgementKind, premiseCount, allRules, ruleAt, entriesFit, wellFormed, checkBy, checkStep}
 use Rattle.rules.specs.Derives.{ruleNumbered, derives}
 use Rattle.derivation.specs.Formed.{formedUnder, formed, Derivable}
 use Rattle.derivation.specs.StepReply.{stepReply, verdictReply}

@@ -1,6 +1,5 @@
 -- The code's reply to one step.
 -- Assumes nothing.
-use mathlib.Core.Bool.{Bool}
 use Rattle.meaning.specs.Result.{Result, refuse, found}
 use Rattle.inclusion.specs.declared.Verdict.{Verdict}
 use Rattle.inclusion.specs.declared.Verdict.the-variants.{Holds, Untrue, NotPermitted}

@@ -63,7 +63,7 @@ fn premises_fit(count: u8, a: u16, b: u16, c: u16, k: u16) -> bool
 
 // Whether step k passes 8: its rule is known and gives its judgement kind, its entries are in the file, its premises are earlier steps, and
 // unused places are zero.
-pub fn well_formed(file: &[u8], at: Places, index: &[u16; 768], k: u16) -> bool
+pub(crate) fn well_formed(file: &[u8], at: Places, index: &[u16; 768], k: u16) -> bool
     requires { ⌜ Known (now file) at (now index) ⌝ }
     requires { ⌜ k < at .steps ⌝ }
     ensures { λ r. ⌜ r ≡ formed (decoded (now (file .entry))) k (stepAt (decoded (now (file .entry))) k) ⌝ }
@@ -85,7 +85,7 @@ pub fn well_formed(file: &[u8], at: Places, index: &[u16; 768], k: u16) -> bool
 }
 
 // Whether step k, which passed 8 and is by a rule of 6 to 28, is derived by it.
-pub fn derived(file: &[u8], at: Places, index: &[u16; 768], k: u16) -> bool
+pub(crate) fn derived(file: &[u8], at: Places, index: &[u16; 768], k: u16) -> bool
     requires { ⌜ Known (now file) at (now index) ⌝ }
     requires { ⌜ k < at .steps ⌝ }
     requires { ⌜ Derivable (decoded (now file)) k ⌝ }

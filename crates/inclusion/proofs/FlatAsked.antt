@@ -11,7 +11,6 @@ use lib.ListN.{getD}
 use lib.Pow.{pow-mono}
 use lib.Dec.{T, eqb}
 use Rattle.task.specs.declared.Action.{Action}
-use Rattle.task.specs.Task.{after}
 use Rattle.task.proofs.Tests.{excluded, never, not-of}
 use Rattle.task.proofs.Bits.{after-lt}
 use Rattle.meaning.specs.declared.Clause.{Clause}

@@ -24,6 +24,7 @@ use Rattle.task.specs.Inner.{has}
 use Rattle.clauses.specs.Clauses.{sameAs, onIn, clauseAt, clauseCount}
 use Rattle.clauses.specs.Propagation.{value}
 use Rattle.shapes.specs.Flat.{numbersOf}
+use Rattle.shapes.specs.Trees.{nodeOf}
 use Rattle.clauses.proofs.OneFact.{bit-same, bit-only}
 use Rattle.clauses.proofs.ClauseLaws.{Has, by-met, met-by, always}
 use Rattle.shapes.proofs.Lists.{every-index}
@@ -110,7 +111,7 @@ module _ (bytes : List ℕ) (t : Task) (p s : ℕ) (start : t .init < 2 ^ 64) (f
   -- a basic set that is not of listed states
   pub met-basic : (b : Basic) → T (not (eqb (basicKind b) 3)) → BasicItems bytes p b
       → T (inBasic t b s) ↔ MeetsEach bytes (t .init) (t .goal) (basicKind b) (placeOf p b) (countOf p b) s
-  unfolding clauseAt clauseCount numbersOf viewOfBasic span basicKind inBasic isInit isGoal
+  unfolding clauseAt clauseCount numbersOf nodeOf viewOfBasic span basicKind inBasic isInit isGoal
   met-basic empty n h = ((λ e. absurd e), (λ e. none-met s (e 0 (omega arith))))
   met-basic init n h = (
     (λ e i l. same-met s (t .init) i .1 (ap (bit i) (eqb→eq s (t .init) e))),

@@ -8,7 +8,6 @@ use mathlib.Core.Bool.{Bool, true}
 use mathlib.Core.List.{List, [], _∷_}
 use lib.ListN.{length, getD, length-append, length-take}
 use lib.Dec.{T, eqb}
-use Rattle.task.specs.declared.Action.{Action}
 use Rattle.task.specs.Task.{actionAt}
 use Rattle.meaning.specs.declared.Clause.{Clause}
 use Rattle.certificate.specs.declared.Places.{Places}
@@ -21,11 +20,11 @@ use Rattle.meaning.specs.Writing.{Ascending, FitsAction, FitsClauses, FitsBasic
 use Rattle.meaning.proofs.Order as order
 use Rattle.certificate.proofs.ItemLaws.{Items}
 use Rattle.certificate.proofs.EntryLaws.{BasicItems}
-use Rattle.certificate.proofs.KnownLaws.{known-init, known-goal}
 use Rattle.task.specs.Inner.{noAction}
-use Rattle.shapes.specs.Counter.{Leaf, ActionsOf}
+use Rattle.shapes.specs.Counter.{Leaf}
 use Rattle.inclusion.specs.Listed.{InOrder, InOrderAt}
 use Rattle.shapes.specs.Flat.{numbersOf, flatLeaf, flatOf}
+use Rattle.shapes.specs.Trees.{nodeOf}
 use Rattle.shapes.proofs.FlatLaws.{four, Holding, LeafIs, leaf-is}
 use Rattle.inclusion.proofs.FlatHolds.{placeOf, countOf, states-stand, by-leaf}
 use Rattle.inclusion.proofs.FlatAsked.{known-task}
@@ -61,7 +60,7 @@ ruleFor kind = getD ((λ p q. true) ∷ (λ p q. true) ∷ (λ p q. true) ∷ (�
 module _ (bytes : List ℕ) (p n : ℕ) where
   pub states-ordered : (b : Basic) → BasicItems bytes p b → FitsBasic n b → T (eqb (basicKind b) 3)
       → InOrder bytes (placeOf p b) (countOf p b)
-  unfolding numbersOf viewOfBasic span basicKind
+  unfolding numbersOf nodeOf viewOfBasic span basicKind
   states-ordered empty h z t = absurd t
   states-ordered init h z t = absurd t
   states-ordered goal h z t = absurd t
@@ -79,7 +78,7 @@ module _ (bytes : List ℕ) (p n : ℕ) where
 
   basic-fit : (b : Basic) → BasicItems bytes p b → FitsBasic n b → 4 ≤ basicKind b
       → ClausesFit bytes n (ruleFor (basicKind b)) (placeOf p b) (countOf p b)
-  unfolding numbersOf viewOfBasic span basicKind
+  unfolding numbersOf nodeOf viewOfBasic span basicKind
   basic-fit empty h z t = absurd (omega arith)
   basic-fit init h z t = absurd (omega arith)
   basic-fit goal h z t = absurd (omega arith)
@@ -88,7 +87,7 @@ module _ (bytes : List ℕ) (p n : ℕ) where
   basic-fit (twoCnf cs) h z t = clauses-fit twoCnfRule cs h z
 
   clauses-inside : (b : Basic) → BasicItems bytes p b → 4 ≤ basicKind b → placeOf p b + 16 * countOf p b ≤ length bytes
-  unfolding numbersOf viewOfBasic span basicKind
+  unfolding numbersOf nodeOf viewOfBasic span basicKind
   clauses-inside empty h t = absurd (omega arith)
   clauses-inside init h t = absurd (omega arith)
   clauses-inside goal h t = absurd (omega arith)
@@ -99,21 +98,11 @@ module _ (bytes : List ℕ) (p n : ℕ) where
 -- ---- a checked file
 
 module _ (bytes : List ℕ) (at : Places) (index : List ℕ) (k : Known bytes at index) where
-  -- its start and its forbidden mask
-  pub init-low : at .init < 2 ^ decoded bytes .task .facts
-  init-low = rw (known-init bytes at index k) (known-task bytes at index k .init)
-
-  pub goal-low : at .goal < 2 ^ decoded bytes .task .facts
-  goal-low = rw (known-goal bytes at index k) (known-task bytes at index k .goal)
-
   -- its actions, and the action that does nothing
   pub action-fits : (i : ℕ) → i < length (decoded bytes .task .actions) → FitsAction (decoded bytes .task .facts) (actionAt (decoded bytes .task) i)
   unfolding actionAt
   action-fits i l =
       order.all-at (λ _. FitsAction (decoded bytes .task .facts)) _ 0 (decoded bytes .task .actions) (known-task bytes at index k .actions) i l
-
-  pub chosen-fits : (e : ℕ) (a : Action) → ActionsOf (decoded bytes) e a → FitsAction (decoded bytes .task .facts) a
-  chosen-fits e a (i, l, _, q) = subst (FitsAction (decoded bytes .task .facts)) (sym q) (action-fits i l)
 
   pub none-fits : FitsAction (decoded bytes .task .facts) noAction
   unfolding noAction

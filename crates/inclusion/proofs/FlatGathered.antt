@@ -133,9 +133,3 @@ module _ (bytes : List ℕ) (at : Places) (index : List ℕ) (k : Known bytes at
 
       pub left-inside : getD left (4 * j + 1) 0 + 16 * getD left (4 * j + 2) 0 ≤ length bytes
       left-inside = leaf-inside bytes at index k left (r .«left_count») lefts holding-left j l (past-three kind (unlisted-left j l) three)
-
-    -- the right clauses in the file keep their kind's rule
-    pub right-rule : (j : ℕ) → j < r .«right_count» → 3 ≤ getD right (4 * j) 0
-        → ClausesFit bytes (decoded bytes .task .facts) (ruleFor (getD right (4 * j) 0)) (getD right (4 * j + 1) 0) (getD right (4 * j + 2) 0)
-    right-rule j l three =
-        leaf-fits bytes at index k right (r .«right_count») rights holding-right j l (past-three (getD right (4 * j) 0) (unlisted-right j l) three)

@@ -29,6 +29,7 @@ use Rattle.shapes.specs.Counter.{Leaf, seen}
 use Rattle.clauses.specs.Clauses.{clauseAt}
 use Rattle.inclusion.specs.Listed.{statesAt, leafHolds, leafHoldsAt}
 use Rattle.shapes.specs.Flat.{numbersOf}
+use Rattle.shapes.specs.Trees.{nodeOf}
 use Rattle.meaning.proofs.Below.{all-at, all-of}
 use Rattle.shapes.proofs.Lists.{every-index}
 use Rattle.shapes.proofs.Leaves.{in-basic, basic-of}
@@ -80,7 +81,7 @@ module _ (bytes : List ℕ) where
 
   holds-basic : (t : Task) (p s : ℕ) (b : Basic) → BasicItems bytes p b
       → leafHolds bytes (t .init) (t .goal) (basicKind b) (placeOf p b) (countOf p b) s ≡ inBasic t b s
-  unfolding leafHolds numbersOf viewOfBasic span basicKind inBasic isInit isGoal
+  unfolding leafHolds numbersOf nodeOf viewOfBasic span basicKind inBasic isInit isGoal
   holds-basic t p s empty h = refl
   holds-basic t p s init h = refl
   holds-basic t p s goal h = refl

@@ -9,19 +9,20 @@ use mathlib.Core.List.{List, [], _∷_}
 use lib.ListN.{getD}
 use lib.Dec.{T, eqb, eqb→eq}
 use Rattle.task.specs.declared.Action.{Action}
-use Rattle.task.specs.Task.{Task, isInit, applies}
+use Rattle.task.specs.Task.{Task, isInit}
 use Rattle.task.specs.Reach.{member}
 use Rattle.task.proofs.Tests.{member-first, member-none, member-cases}
 use Rattle.certificate.specs.declared.Places.{Places}
-use Rattle.meaning.specs.File.{File, basicKind, Basic, empty, init, goal, explicit, horn, twoCnf}
+use Rattle.meaning.specs.File.{basicKind, Basic, empty, init, goal, explicit, horn, twoCnf}
 use Rattle.certificate.specs.Views.{viewOfBasic, span}
 use Rattle.certificate.specs.Known.{Known, decoded, statePlace}
 use Rattle.meaning.specs.Writing.{AllFrom, FitsBasic}
 use Rattle.certificate.proofs.EntryLaws.{BasicItems}
 use Rattle.meaning.specs.Sets.{inBasic, inSet}
-use Rattle.shapes.specs.Counter.{Leaf, seen, AllIn, NoneIn, Counter, Refuted}
+use Rattle.shapes.specs.Counter.{Leaf, seen, AllIn, NoneIn, Refuted}
 use Rattle.inclusion.specs.Listed.{leafStates, leafStatesAt, leafHoldsAt, Shows}
 use Rattle.shapes.specs.Flat.{numbersOf}
+use Rattle.shapes.specs.Trees.{nodeOf}
 use Rattle.shapes.proofs.Lists.{tests-agree}
 use Rattle.shapes.proofs.Moved.{asked, all-index, none-index}
 use Rattle.shapes.proofs.FlatLaws.{Holding, LeafIs, leaf-is, each-leaf}
@@ -33,15 +34,6 @@ abbrev pub noLeaf : Leaf
 noLeaf = record { entry = 0; through = false }
 
 -- ---- a counterexample for one action
-
-pub counter-by : (f : File) (acts : Action → Type 0) (left right : List Leaf) (P : Action → Type 0)
-    → ((a : Action) → acts a → P a ↔ Refuted f a left right) → Counter f acts left right ↔ ((a : Action) × acts a × P a)
-counter-by f acts left right P law = (
-  (λ c. (c .action, c .chosen, law (c .action) (c .chosen) .1 (c .state, c .low, c .allowed, c .holds, c .fails))),
-  (λ (a, h, p).
-      let w = law a h .0 p in
-      record { action = a; chosen = h; state = w .0; low = w .1; allowed = w .2; holds = w .3; fails = w .4 }),
-)
 
 -- ---- the states of a leaf of kinds 0, 1 and 3
 
@@ -58,7 +50,7 @@ module _ (bytes : List ℕ) (t : Task) (p s : ℕ) where
 
   -- they are states of the file's facts
   states-low : (n : ℕ) → t .init < 2 ^ n → (b : Basic) → BasicItems bytes p b → FitsBasic n b → T (member s (states b)) → s < 2 ^ n
-  unfolding leafStates numbersOf viewOfBasic span basicKind
+  unfolding leafStates numbersOf nodeOf viewOfBasic span basicKind
   states-low n l empty h z m = absurd (member-none s m)
   states-low n l init h z m = all-member (λ x. x < 2 ^ n) 0 (t .init ∷ []) (l, tt) s m
   states-low n l goal h z m = absurd (member-none s m)
@@ -68,7 +60,7 @@ module _ (bytes : List ℕ) (t : Task) (p s : ℕ) where
 
   -- and they are all that the leaf holds
   states-all : (b : Basic) → IsAnchor (basicKind b) → BasicItems bytes p b → T (inBasic t b s) → T (member s (states b))
-  unfolding leafStates numbersOf viewOfBasic span basicKind inBasic isInit member
+  unfolding leafStates numbersOf nodeOf viewOfBasic span basicKind inBasic isInit member
   states-all empty k h e = absurd e
   states-all init k h e = member-first s (t .init) [] (eqb→eq s (t .init) e)
   states-all goal k h e = absurd k

@@ -17,7 +17,7 @@ use Rattle.meaning.specs.declared.Clause.{Clause}
 use Rattle.certificate.specs.declared.Places.{Places}
 use Rattle.certificate.specs.Known.{Known, decoded}
 use Rattle.meaning.specs.Sets.{meets}
-use Rattle.shapes.specs.Counter.{Leaf, AllIn, NoneIn, Counter, Refuted}
+use Rattle.shapes.specs.Counter.{Leaf, AllIn, NoneIn, Refuted}
 use Rattle.clauses.specs.Clauses.{clauseAt, clauseCount, overOld, leafClause, leafCount, OfLeaf, OfLeaves, Refutes}
 use Rattle.shapes.proofs.Moved.{asked, all-index, none-index}
 use Rattle.shapes.proofs.FlatLaws.{Holding, each-leaf}

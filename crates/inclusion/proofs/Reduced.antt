@@ -3,14 +3,13 @@
 use mathlib.Core.Path.{_≡_, refl, ap, subst, sym, _∙_}
 use mathlib.Core.Logic.{_↔_, inl, inr, Iff·trans, Iff·and, Iff·rfl, Iff·symm}
 use Prim.Native.Nat.{ℕ, _-_, _^_, _<_}
-use native.Mathlib.Omega.{arith}
 use mathlib.Core.Bool.{Bool, true, false, not, _&&_, and-comm}
 use mathlib.Core.List.{List, [], _∷_}
 use lib.ListN.{length}
 use lib.Dec.{T, eqb}
-use lib.Bits.{bitAnd, and-zero-r, or-zero-r}
+use lib.Bits.{and-zero-r}
 use Rattle.task.specs.declared.Action.{Action}
-use Rattle.task.specs.Facts.{allOn, without}
+use Rattle.task.specs.Facts.{allOn}
 use Rattle.task.specs.Task.{actionAt, applies, after}
 use Rattle.task.specs.Reach.{every}
 use Rattle.task.proofs.Tests.{excluded, never, same}
@@ -31,10 +30,6 @@ use Rattle.shapes.proofs.Moved.{as-written}
 pub no-action-applies : (s : ℕ) → T (applies noAction s)
 unfolding applies allOn noAction
 no-action-applies s = same (and-zero-r s)
-
-pub no-action-after : (s : ℕ) → after noAction s ≡ s
-unfolding after without noAction
-no-action-after s = or-zero-r (s - bitAnd s 0) ∙ ap (λ (m : ℕ). s - m) (and-zero-r s) ∙ omega arith
 
 -- ---- in general
 

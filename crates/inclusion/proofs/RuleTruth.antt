@@ -1,24 +1,22 @@
 -- A permitted statement of rules 1 to 4 is true exactly when its gathered leaves have no counterexample.
 -- Assumes nothing.
-use mathlib.Core.Path.{_≡_, refl, sym, ap, _∙_, subst}
+use mathlib.Core.Path.{_≡_, refl, sym, subst}
 use mathlib.Core.Logic.{_↔_, Iff·trans}
-use Prim.Native.Nat.{ℕ, zero, suc, _+_, _-_, _≤_, _<_}
+use Prim.Native.Nat.{ℕ, zero, suc, _-_, _≤_}
 use native.Mathlib.Omega.{arith}
-use mathlib.Core.Bool.{Bool, true, false, not}
 use mathlib.Core.List.{List, [], _∷_}
 use lib.ListN.{getD}
 use lib.Dec.{T, eqb}
 use Rattle.task.specs.declared.Action.{Action}
 use Rattle.task.proofs.Moves.{Bounded}
-use Rattle.meaning.specs.File.{File, stateSetAt, second}
+use Rattle.meaning.specs.File.{File}
 use Rattle.meaning.proofs.Order.{Ordered}
 use Rattle.meaning.specs.Sets.{statesWithin}
-use Rattle.meaning.specs.Shapes.{keep, Sides, kindAt, leaves, permitted, shape₁, shapeWith, shape₂, shape₃, shape₄}
-use Rattle.task.specs.Inner.{noAction}
-use Rattle.shapes.specs.Counter.{Leaf, Counter, ActionsOf, leftLeaves, rightLeaves}
+use Rattle.meaning.specs.Shapes.{keep, kindAt, leaves, shapeWith, shape₂, shape₃}
+use Rattle.shapes.specs.Counter.{Leaf, Counter}
 use Rattle.shapes.specs.Flat.{notEmpty}
 use Rattle.shapes.specs.Gathered.{bracketLeaf, bracketSides, shapeOf, sidesOf, throughOf, actionsOfRule, leftOf, rightOf, Acts}
-use Rattle.inclusion.proofs.Reduced.{truth-1, truth-2, truth-3, truth-4, sidesWith}
+use Rattle.inclusion.proofs.Reduced.{truth-1, truth-2, truth-3, truth-4}
 use Rattle.shapes.proofs.Filled.{drop-empty}
 use Rattle.shapes.proofs.LeafKinds.{the-only}
 

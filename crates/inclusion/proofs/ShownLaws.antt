@@ -1,17 +1,17 @@
 -- One state and one action that make a statement untrue, as the code tests them and as `Shows` puts them.
 -- Assumes nothing.
-use mathlib.Core.Path.{_≡_, refl, ap, subst, sym, _∙_}
+use mathlib.Core.Path.{_≡_, refl, ap, subst, sym}
 use mathlib.Core.Logic.{_↔_, inl, inr}
 use Prim.Native.Nat.{ℕ, zero, suc, _+_, _*_, _<_}
 use native.Mathlib.Omega.{arith}
 use mathlib.Core.Bool.{Bool, true, false, not, _&&_, _||_}
 use mathlib.Core.List.{List, []}
 use lib.ListN.{getD}
-use lib.Dec.{T, eqb, ltb, eqb→eq, lt→ltb}
+use lib.Dec.{T, eqb, eqb→eq}
 use Rattle.task.specs.declared.Action.{Action}
 use Rattle.task.specs.Task.{applies, after}
 use Rattle.task.specs.Reach.{member}
-use Rattle.task.proofs.Tests.{and-left, and-right, and-both, or-cases, or-right, same, holds, is-true, never, member-none, member-first, member-cases}
+use Rattle.task.proofs.Tests.{and-left, and-right, and-both, or-cases, or-right, same, holds, never, member-none, member-first, member-cases}
 use Rattle.meaning.specs.Sets.{allBelow, someBelow}
 use Rattle.shapes.specs.Counter.{seen}
 use Rattle.inclusion.specs.declared.listed.Rows.{Rows}

@@ -9,12 +9,6 @@ use Rattle.meaning.specs.Statements.{Statement, statements}
 use Rattle.inclusion.specs.declared.Verdict.{Verdict}
 use Rattle.inclusion.specs.declared.Verdict.the-variants.{Holds, Untrue, NotPermitted}
 
--- document 01's replies are 10 for a shape that is not permitted and 11 for what is untrue
-unfoldable pub verdictNumber : Verdict → ℕ
-verdictNumber Holds = 0
-verdictNumber NotPermitted = 10
-verdictNumber Untrue = 11
-
 -- of a statement that is permitted
 unfoldable pub verdictBut : Bool → Verdict
 verdictBut true = Untrue

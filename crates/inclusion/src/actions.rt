@@ -113,7 +113,7 @@ pub fn action_marks(file: &[u8], at: Places, index: &[u16; 768], a: u16) -> [u64
 }
 
 // B5: whether every action of set a is in set b.
-pub fn actions_within(file: &[u8], at: Places, index: &[u16; 768], a: u16, b: u16) -> bool
+pub(crate) fn actions_within(file: &[u8], at: Places, index: &[u16; 768], a: u16, b: u16) -> bool
     requires { ⌜ Known (now file) at (now index) ⌝ }
     requires { ⌜ (a < at .«action_sets») × (b < at .«action_sets») ⌝ }
     ensures { λ r. ⌜ r ≡ actionsWithin (decoded (now (file .entry))) a b ⌝ }

@@ -277,7 +277,7 @@ fn spared(left: &[u32], m: usize, anchor: usize) -> usize
 }
 
 // Whether an action in a state of the anchor, a left leaf of listed states, makes the statement untrue.
-pub fn shown(
+pub(crate) fn shown(
     file: &[u8],
     init: u64,
     goal: u64,

@@ -35,14 +35,14 @@ fn one(i: u16) -> [u64; 4]
 }
 
 // What is marked in either.
-pub fn united(a: [u64; 4], b: [u64; 4]) -> [u64; 4]
+pub(crate) fn united(a: [u64; 4], b: [u64; 4]) -> [u64; 4]
     ensures { λ r. ⌜ Marks r (λ i. marked a i || marked b i) ⌝ }
 {
     [a[0] | b[0], a[1] | b[1], a[2] | b[2], a[3] | b[3]]
 }
 
 // The marks with one number more.
-pub fn with_mark(words: [u64; 4], i: u16) -> [u64; 4]
+pub(crate) fn with_mark(words: [u64; 4], i: u16) -> [u64; 4]
     requires { ⌜ i < 256 ⌝ }
     ensures { λ r. ⌜ Marks r (λ j. marked words j || eqb j i) ⌝ }
 {
@@ -57,7 +57,7 @@ fn within_word(a: u64, b: u64) -> bool
 }
 
 // Whether all that is marked in a is marked in b.
-pub fn all_marked(a: [u64; 4], b: [u64; 4]) -> bool
+pub(crate) fn all_marked(a: [u64; 4], b: [u64; 4]) -> bool
     ensures { λ r. ⌜ r ≡ allBelow 256 (λ i. not (marked a i) || marked b i) ⌝ }
 {
     within_word(a[0], b[0])

@@ -29,33 +29,33 @@ pub struct TaskHead {
 }
 
 // A reader at a place.
-pub fn reader_at<'a>(src: &'a [u8], at: usize) -> Reader<'a>
+pub(crate) fn reader_at<'a>(src: &'a [u8], at: usize) -> Reader<'a>
     ensures { λ r. ⌜ (r .src ≡ src .entry) × (r .at ≡ at) ⌝ }
 {
     Reader { src, at }
 }
 
 // The number in the byte, or in the two or eight bytes, at the reader's place.
-pub fn byte<'a>(r: Reader<'a>) -> u8
+pub(crate) fn byte<'a>(r: Reader<'a>) -> u8
     ensures { λ x. ⌜ x ≡ numberAt 1 (now (r .entry .src)) (r .entry .at) ⌝ }
 {
     byte_at(r.src, r.at)
 }
 
-pub fn half<'a>(r: Reader<'a>) -> u16
+pub(crate) fn half<'a>(r: Reader<'a>) -> u16
     ensures { λ x. ⌜ x ≡ numberAt 2 (now (r .entry .src)) (r .entry .at) ⌝ }
 {
     u16_at(r.src, r.at)
 }
 
-pub fn word<'a>(r: Reader<'a>) -> u64
+pub(crate) fn word<'a>(r: Reader<'a>) -> u64
     ensures { λ x. ⌜ x ≡ numberAt 8 (now (r .entry .src)) (r .entry .at) ⌝ }
 {
     u64_at(r.src, r.at)
 }
 
 // The reader n bytes on.
-pub fn past<'a>(r: Reader<'a>, n: usize) -> Reader<'a>
+pub(crate) fn past<'a>(r: Reader<'a>, n: usize) -> Reader<'a>
     requires { ⌜ r .at + n < 2 ^ 64 ⌝ }
     ensures { λ q. ⌜ (q .src ≡ r .entry .src) × (q .at ≡ r .entry .at + n) ⌝ }
 {
@@ -66,7 +66,7 @@ pub fn past<'a>(r: Reader<'a>, n: usize) -> Reader<'a>
 }
 
 // The head of the entry at a place. Its parameters are plain, so that whoever calls it has no walk by hand, as of `task_head`.
-pub fn entry_head(file: &[u8], place: u32) -> EntryHead
+pub(crate) fn entry_head(file: &[u8], place: u32) -> EntryHead
     ensures { λ h. ⌜ h ≡ entryHeadAt (now (file .entry)) place ⌝ }
 {
     let r = reader_at(file, place as usize);
@@ -76,7 +76,7 @@ pub fn entry_head(file: &[u8], place: u32) -> EntryHead
 }
 
 // The head of the task: one reader walks on from each field to the next.
-pub fn task_head(file: &[u8]) -> TaskHead
+pub(crate) fn task_head(file: &[u8]) -> TaskHead
     ensures { λ h. ⌜ h ≡ taskHeadAt (now (file .entry)) ⌝ }
 {
     let mut r = reader_at(file, 4);

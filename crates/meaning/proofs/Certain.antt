@@ -1,23 +1,23 @@
 -- A safe task with at most 4,096 states within reach has a certificate: the sample's, with those states listed.
 -- Assumes nothing.
 use mathlib.Core.Path.{_≡_, refl, sym, ap, _∙_, subst}
-use mathlib.Core.Logic.{_↔_, inl, inr}
-use Prim.Native.Nat.{ℕ, zero, suc, _+_, _*_, _^_, _≤_, _<_}
+use mathlib.Core.Logic.{_↔_}
+use Prim.Native.Nat.{ℕ, suc, _+_, _*_, _^_, _≤_, _<_}
 use native.Mathlib.Omega.{arith}
-use mathlib.Core.Bool.{Bool, true, false, not, _&&_, _||_}
-use mathlib.Core.List.{List, [], _∷_, _++_}
+use mathlib.Core.Bool.{Bool, true, false, _&&_, _||_}
+use mathlib.Core.List.{List, [], _∷_}
 use lib.ListN.{length, length-append}
 use lib.Dec.{T, eqb, ltb}
 use Rattle.task.specs.Task.{Task, actionAt, isInit, isGoal, applies, after, next}
 use Rattle.task.specs.Reach.{member, Unsolvable, Reachable}
 use Rattle.task.proofs.Tests.{and-left, and-right, or-left, never, member-first, member-rest}
-use Rattle.task.proofs.Moves.{Bounded, system, next-cases, reach-init, reach-next, reach-lt, reach-safe, safe-unsolvable}
+use Rattle.task.proofs.Moves.{Bounded, reach-init, reach-next, reach-lt, reach-safe, safe-unsolvable}
 use Rattle.task.proofs.Sorted.{Ascends}
 use Rattle.task.proofs.Closure.{reachable-list}
-use Rattle.meaning.specs.Result.{Result, found, _>>=_, need}
+use Rattle.meaning.specs.Result.{found, need}
 use Rattle.meaning.specs.Bytes.{bytesOf}
-use Rattle.meaning.specs.File.{StateSet, basic, explicit, File, stepAt}
-use Rattle.meaning.specs.Layout.{readTask, readFile}
+use Rattle.meaning.specs.File.{File, stepAt}
+use Rattle.meaning.specs.Layout.{readFile}
 use Rattle.meaning.specs.Writing.{AllFrom, Ascending, FitsCertificate, FitsStep, each, writeEntry, actionBody, basicBody, stateBody, writeActionSet, writeStateSet, writeStep, counted, fileOf, writeCertificate, Lawful}
 use Rattle.meaning.proofs.Results.{bind-in, need-in, found-same}
 use Rattle.meaning.proofs.Reading.{file-read, task-fits, task-end}
@@ -27,7 +27,7 @@ use Rattle.meaning.proofs.Suffix.{length-file}
 use Rattle.meaning.proofs.Back.{length-each}
 use Rattle.meaning.proofs.Written.{anything, certificate-reads}
 use Rattle.meaning.proofs.WrittenBytes.{certificate-bytes}
-use Rattle.meaning.specs.Sets.{inSet, inActions, progressed, statesWithin}
+use Rattle.meaning.specs.Sets.{inSet, progressed, statesWithin}
 use Rattle.meaning.proofs.Sets.{within, progression-iff}
 use Rattle.meaning.proofs.TaskBounds.{fits-bounded}
 use Rattle.meaning.specs.Step.{checkStep}

@@ -2,20 +2,19 @@
 -- Assumes nothing.
 use mathlib.Core.Path.{_≡_, refl, sym, ap, subst}
 use mathlib.Core.Logic.{inl, inr}
-use Prim.Native.Nat.{ℕ, zero, suc, _-_, _^_, _<_, _≤_}
+use Prim.Native.Nat.{ℕ, zero, suc, _-_, _<_, _≤_}
 use native.Mathlib.Nat.{le-of-suc-le-suc, eq-or-lt-of-le, not-suc-le-zero}
 use native.Mathlib.Omega.{arith}
 use mathlib.Core.List.{List, [], _∷_}
 use lib.ListN.{length, getD, drop, length-drop}
-use lib.Dec.{T, eqb, eqb→eq}
+use lib.Dec.{eqb, eqb→eq}
 use Rattle.task.specs.Reach.{Safe}
-use Rattle.task.specs.System.{UnsolvableIn}
-use Rattle.task.proofs.Moves.{Bounded, system, unsolvable, safe-unsolvable, dead}
-use Rattle.meaning.specs.Result.{Result, refuse, found, _>>=_, need}
+use Rattle.task.proofs.Moves.{Bounded, unsolvable, safe-unsolvable, dead}
+use Rattle.meaning.specs.Result.{Result, refuse, found, _>>=_}
 use Rattle.meaning.specs.File.{Step, File, stepAt}
 use Rattle.meaning.specs.Layout.{readFile}
 use Rattle.meaning.proofs.Results.{bind-out, need-out}
-use Rattle.meaning.proofs.Reading.{Read, file-read}
+use Rattle.meaning.proofs.Reading.{file-read}
 use Rattle.meaning.proofs.Order.{Ordered, ordered}
 use Rattle.meaning.specs.Sets.{inSet}
 use Rattle.meaning.proofs.Sets.{within, within-actions}

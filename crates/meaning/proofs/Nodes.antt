@@ -6,7 +6,7 @@ use mathlib.Core.Bool.{Bool, false, not, _&&_, _||_}
 use mathlib.Core.List.{List, [], _∷_}
 use lib.ListN.{getD, length}
 use lib.Dec.{T, eqb, eqb→eq, ltb}
-use Rattle.task.specs.Task.{isInit, isGoal, Task}
+use Rattle.task.specs.Task.{isInit, isGoal}
 use Rattle.meaning.specs.File.{ActionSet, all, listed, either, empty, init, goal, explicit, horn, twoCnf, StateSet, basic, complement, intersection, union, progression, regression, File, actionSetAt, stateSetAt, actionKind, stateKind, basicKind, first, second, firstAction, secondAction}
 use Rattle.meaning.proofs.Order.{Earlier, EarlierActions, Ordered}
 use Rattle.meaning.specs.Sets.{actionNode, inActions, progressed, regressed, inBasic, stateNode, inSet}

@@ -6,8 +6,10 @@ use native.Mathlib.Nat.{pow-suc, pow-le-pow-right, le-trans}
 use native.Mathlib.Omega.{arith}
 use mathlib.Core.List.{List, [], _∷_, _++_}
 use lib.ListN.{length, take, drop, length-append}
-use Rattle.meaning.specs.Bytes.{bigEndian, bytesOf, number}
-use Rattle.meaning.specs.Writing.{AllFrom, All}
+use lib.Dec.{ltb, ltb→lt}
+use Rattle.task.specs.Reach.{every}
+use Rattle.task.proofs.Tests.{and-left, and-right}
+use Rattle.meaning.specs.Bytes.{bigEndian, bytesOf, number, AreBytes}
 
 pub length-bytesOf : (k x : ℕ) → length (bytesOf k x) ≡ k
 unfolding bytesOf
@@ -31,22 +33,23 @@ bigEndian-bytesOf (suc k) x h =
 
 -- ---- bounds
 
-below-take : (k j a i : ℕ) (xs : List ℕ) → AllFrom (λ _ b. b < 256) i xs → a < 256 ^ j → bigEndian a (take k xs) < 256 ^ (j + k)
-unfolding bigEndian
-below-take zero j a i xs h l = subst (λ (n : ℕ). a < 256 ^ n) (omega arith) l
-below-take (suc k) j a i [] h l = le-trans l (pow-le-pow-right (omega arith) (omega arith))
-below-take (suc k) j a i (x ∷ xs) h l =
+below-take : (k j a : ℕ) (xs : List ℕ) → AreBytes xs → a < 256 ^ j → bigEndian a (take k xs) < 256 ^ (j + k)
+unfolding bigEndian every
+below-take zero j a xs h l = subst (λ (n : ℕ). a < 256 ^ n) (omega arith) l
+below-take (suc k) j a [] h l = le-trans l (pow-le-pow-right (omega arith) (omega arith))
+below-take (suc k) j a (x ∷ xs) h l =
     let P : ℕ = 256 ^ j in
     let e : 256 ^ suc j ≡ P * 256 = pow-suc 256 j in
-    let b : x < 256 = h .0 in
+    let b : x < 256 = ltb→lt x 256 (and-left (ltb x 256) _ h) in
     let n : suc j + k ≡ j + suc k = omega arith in
-    subst (λ (m : ℕ). bigEndian (a * 256 + x) (take k xs) < 256 ^ m) n (below-take k (suc j) (a * 256 + x) (suc i) xs (h .1) (omega arith))
+    subst (λ (m : ℕ). bigEndian (a * 256 + x) (take k xs) < 256 ^ m) n (below-take k (suc j) (a * 256 + x) xs (and-right (ltb x 256) _ h) (omega arith))
 
-below-drop : (k p i : ℕ) (xs : List ℕ) → AllFrom (λ _ b. b < 256) i xs → bigEndian 0 (take k (drop p xs)) < 256 ^ (0 + k)
-below-drop k zero i xs h = below-take k 0 0 i xs h (omega arith)
-below-drop k (suc p) i [] h = below-take k 0 0 i [] h (omega arith)
-below-drop k (suc p) i (x ∷ xs) h = below-drop k p (suc i) xs (h .1)
+below-drop : (k p : ℕ) (xs : List ℕ) → AreBytes xs → bigEndian 0 (take k (drop p xs)) < 256 ^ (0 + k)
+unfolding every
+below-drop k zero xs h = below-take k 0 0 xs h (omega arith)
+below-drop k (suc p) [] h = below-take k 0 0 [] h (omega arith)
+below-drop k (suc p) (x ∷ xs) h = below-drop k p xs (and-right (ltb x 256) _ h)
 
-pub number-lt : (bytes : List ℕ) → All (λ b. b < 256) bytes → (k p : ℕ) → number k bytes p < 256 ^ k
+pub number-lt : (bytes : List ℕ) → AreBytes bytes → (k p : ℕ) → number k bytes p < 256 ^ k
 unfolding number
-number-lt bytes h k p = subst (λ (n : ℕ). bigEndian 0 (take k (drop p bytes)) < 256 ^ n) (omega arith) (below-drop k p 0 bytes h)
+number-lt bytes h k p = subst (λ (n : ℕ). bigEndian 0 (take k (drop p bytes)) < 256 ^ n) (omega arith) (below-drop k p bytes h)

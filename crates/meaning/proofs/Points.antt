@@ -3,10 +3,11 @@
 use mathlib.Core.Path.{refl}
 use Rattle.meaning.specs.Bytes.{bytesOf}
 use Rattle.meaning.specs.Writing.{each, writeEntry, actionBody, basicBody, stateBody, writeActionSet, writeStateSet, writeStep, counted, writeCertificate, fileOf}
+use Rattle.meaning.proofs.Reading.{reads-within}
 use Rattle.meaning.proofs.Written.{reads-back}
 use Rattle.meaning.proofs.RulesSound.{rules-sound}
 use Rattle.meaning.specs.Certain.{certificateOf}
-use Rattle.meaning.specs.Points.{SampleLength, TwelveCases, RulesSound, JudgementsTrue, AcceptedIsSafe, SafeIsAccepted, CertainCertificate, SampleForm, ReadsBack, Shortcut, RefusalNumbers, AnswerNumbers}
+use Rattle.meaning.specs.Points.{SampleLength, TwelveCases, RulesSound, JudgementsTrue, AcceptedIsSafe, SafeIsAccepted, CertainCertificate, SampleForm, ReadsWithin, ReadsBack, Shortcut, RefusalNumbers, AnswerNumbers}
 use Rattle.meaning.proofs.Computed.{computed}
 use Rattle.meaning.proofs.Judgements.{judgements-true, accepted-is-safe}
 use Rattle.meaning.proofs.Certain.{certain-certificate, safe-is-accepted}
@@ -39,6 +40,9 @@ the-certificate-lists-what-is-within-reach = certain-certificate
 pub the-sample-has-its-form : SampleForm
 unfolding computed certificateOf each writeEntry actionBody basicBody stateBody writeActionSet writeStateSet writeStep counted writeCertificate fileOf bytesOf
 the-sample-has-its-form = refl
+
+pub what-is-read-is-within-the-limits : ReadsWithin
+what-is-read-is-within-the-limits = reads-within
 
 pub what-was-written-is-read-back : ReadsBack
 what-was-written-is-read-back = reads-back

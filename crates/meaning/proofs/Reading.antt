@@ -1,15 +1,15 @@
 -- What is known of a file that is read: all of it is within the format's limits.
 -- Assumes nothing.
 use mathlib.Core.Path.{_≡_, refl, sym, ap, subst}
-use Prim.Native.Nat.{ℕ, _+_, _*_, _<_, _≤_}
+use Prim.Native.Nat.{ℕ, _+_, _*_, _≤_}
 use mathlib.Core.Bool.{_&&_}
 use mathlib.Core.List.{List}
 use lib.ListN.{length}
 use lib.Dec.{eqb, leb, leb→le}
 use Rattle.task.specs.Task.{Task}
 use Rattle.meaning.specs.Result.{found}
-use Rattle.meaning.specs.Bytes.{number, inside}
-use Rattle.meaning.specs.File.{Step, File}
+use Rattle.meaning.specs.Bytes.{number, inside, AreBytes}
+use Rattle.meaning.specs.File.{ActionSet, StateSet, Step, File}
 use Rattle.meaning.specs.Layout.{items, field, count, mask, action, step, actionKinds, stateKinds, entries, readTask, readFile}
 use Rattle.meaning.specs.Writing.{AllFrom, All, FitsAction, FitsTask, FitsActionSet, FitsStateSet, FitsStep, Fits}
 use Rattle.meaning.proofs.Results.{found-same, bind-case, need-case, and-out}
@@ -68,7 +68,7 @@ three-gives bytes p s e =
     need-case (inside 12 bytes p) 3 p _ s e λ _ q.
     subst (λ (x : Step). length (x .premises) ≡ 3) (found-same q) refl
 
-step-gives : (bytes : List ℕ) → All (λ b. b < 256) bytes → Gives FitsStep (step bytes)
+step-gives : (bytes : List ℕ) → AreBytes bytes → Gives FitsStep (step bytes)
 unfolding step
 step-gives bytes h p s e =
     need-case (inside 12 bytes p) 3 p _ s e λ _ q.
@@ -82,11 +82,30 @@ step-gives bytes h p s e =
       premises = (number-lt bytes h 2 (p + 6), (number-lt bytes h 2 (p + 8), (number-lt bytes h 2 (p + 10), tt)));
     })
 
--- what is read is within the limits, with one more property of the steps
-file-read-with : (bytes : List ℕ) (Q : Step → Type 0) → Gives Q (step bytes) → (f : File) → readFile bytes ≡ found f → Read bytes f × All Q (f .steps)
+-- the parts of a file that is read, each from where the one before it ends
+pub record Walked (bytes : List ℕ) (f : File) : Type 0 where
+  pub short : length bytes ≤ 65536
+  pub t : Task × ℕ
+  pub t! : readTask bytes ≡ found t
+  pub ac : ℕ
+  pub ac! : count bytes 0 256 (t .1) ≡ found ac
+  pub es : List ActionSet × ℕ
+  pub es! : entries bytes (actionKinds bytes (length (t .0 .actions))) 0 (t .1 + 2) ac ≡ found es
+  pub sc : ℕ
+  pub sc! : count bytes 0 512 (es .1) ≡ found sc
+  pub ss : List StateSet × ℕ
+  pub ss! : entries bytes (stateKinds bytes (t .0 .facts) ac) 0 (es .1 + 2) sc ≡ found ss
+  pub kc : ℕ
+  pub kc! : count bytes 1 2048 (ss .1) ≡ found kc
+  pub ks : List Step
+  pub ks! : items (step bytes) 12 (ss .1 + 2) kc ≡ found ks
+  pub last : length bytes ≤ ss .1 + 2 + 12 * kc
+  pub whole : record { task = t .0; actionSets = es .0; stateSets = ss .0; steps = ks } ≡ f
+
+pub file-walked : (bytes : List ℕ) (f : File) → readFile bytes ≡ found f → Walked bytes f
 unfolding readFile
-file-read-with bytes Q given f e =
-    need-case (leb 4 (length bytes) && leb (length bytes) 65536) 1 0 _ f e λ _ e₁.
+file-walked bytes f e =
+    need-case (leb 4 (length bytes) && leb (length bytes) 65536) 1 0 _ f e λ l e₁.
     need-case (eqb (number 4 bytes 0 + 4) (length bytes)) 1 0 _ f e₁ λ _ e₂.
     bind-case (readTask bytes) _ f e₂ λ t t! e₃.
     bind-case (count bytes 0 256 (t .1)) _ f e₃ λ ac ac! e₄.
@@ -95,34 +114,57 @@ file-read-with bytes Q given f e =
     bind-case (entries bytes (stateKinds bytes (t .0 .facts) ac) 0 (es .1 + 2) sc) _ f e₆ λ ss ss! e₇.
     bind-case (count bytes 1 2048 (ss .1)) _ f e₇ λ kc kc! e₈.
     bind-case (items (step bytes) 12 (ss .1 + 2) kc) _ f e₈ λ ks ks! e₉.
-    need-case (leb (length bytes) (ss .1 + 2 + 12 * kc)) 3 (ss .1 + 2 + 12 * kc) _ f e₉ λ _ q.
-    let a = action-sets-give bytes (length (t .0 .actions)) ac (t .1 + 2) es es! in
-    let x = state-sets-give bytes (t .0 .facts) ac sc (es .1 + 2) ss ss! in
-    let k = items-give (λ (s : Step). length (s .premises) ≡ 3) (step bytes) 12 (three-gives bytes) kc 0 (ss .1 + 2) ks ks! in
-    let c = count-gives bytes 1 2048 (ss .1) kc kc! in
-    subst (λ (g : File). Read bytes g × All Q (g .steps)) (found-same q) (
+    need-case (leb (length bytes) (ss .1 + 2 + 12 * kc)) 3 (ss .1 + 2 + 12 * kc) _ f e₉ λ last q.
+    record {
+      short = leb→le (length bytes) 65536 (and-out (leb 4 (length bytes)) (leb (length bytes) 65536) l .1);
+      t = t;
+      t! = t!;
+      ac = ac;
+      ac! = ac!;
+      es = es;
+      es! = es!;
+      sc = sc;
+      sc! = sc!;
+      ss = ss;
+      ss! = ss!;
+      kc = kc;
+      kc! = kc!;
+      ks = ks;
+      ks! = ks!;
+      last = leb→le (length bytes) (ss .1 + 2 + 12 * kc) last;
+      whole = found-same q;
+    }
+
+-- what is read is within the limits, with one more property of the steps
+file-read-with : (bytes : List ℕ) (Q : Step → Type 0) → Gives Q (step bytes) → (f : File) → readFile bytes ≡ found f → Read bytes f × All Q (f .steps)
+file-read-with bytes Q given f e =
+    let w = file-walked bytes f e in
+    let a = action-sets-give bytes (length (w .t .0 .actions)) (w .ac) (w .t .1 + 2) (w .es) (w .es!) in
+    let x = state-sets-give bytes (w .t .0 .facts) (w .ac) (w .sc) (w .es .1 + 2) (w .ss) (w .ss!) in
+    let k = items-give (λ (s : Step). length (s .premises) ≡ 3) (step bytes) 12 (three-gives bytes) (w .kc) 0 (w .ss .1 + 2) (w .ks) (w .ks!) in
+    let c = count-gives bytes 1 2048 (w .ss .1) (w .kc) (w .kc!) in
+    subst (λ (g : File). Read bytes g × All Q (g .steps)) (w .whole) (
       record {
-        end = t .1;
-        table = t!;
-        task = read-task bytes t t! .0;
-        few-action-sets = subst (λ (l : ℕ). l ≤ 256) (sym (a .0)) (count-gives bytes 0 256 (t .1) ac ac! .1);
+        end = w .t .1;
+        table = w .t!;
+        task = read-task bytes (w .t) (w .t!) .0;
+        few-action-sets = subst (λ (l : ℕ). l ≤ 256) (sym (a .0)) (count-gives bytes 0 256 (w .t .1) (w .ac) (w .ac!) .1);
         action-sets = a .1;
-        few-state-sets = subst (λ (l : ℕ). l ≤ 512) (sym (x .0)) (count-gives bytes 0 512 (es .1) sc sc! .1);
-        state-sets = subst (λ (m : ℕ). AllFrom (FitsStateSet (t .0 .facts) m) 0 (ss .0)) (sym (a .0)) (x .1);
+        few-state-sets = subst (λ (l : ℕ). l ≤ 512) (sym (x .0)) (count-gives bytes 0 512 (w .es .1) (w .sc) (w .sc!) .1);
+        state-sets = subst (λ (m : ℕ). AllFrom (FitsStateSet (w .t .0 .facts) m) 0 (w .ss .0)) (sym (a .0)) (x .1);
         some-steps = subst (λ (l : ℕ). 1 ≤ l) (sym (k .0)) (c .0);
         few-steps = subst (λ (l : ℕ). l ≤ 2048) (sym (k .0)) (c .1);
         three = k .1;
       },
-      items-give Q (step bytes) 12 given kc 0 (ss .1 + 2) ks ks! .1,
+      items-give Q (step bytes) 12 given (w .kc) 0 (w .ss .1 + 2) (w .ks) (w .ks!) .1,
     )
 
--- a file that is read is within the limits, but for the numbers of its steps
 pub file-read : (bytes : List ℕ) (f : File) → readFile bytes ≡ found f → Read bytes f
 file-read bytes f e = file-read-with bytes (λ s. length (s .premises) ≡ 3) (three-gives bytes) f e .0
 
 -- a file that is read from bytes is within the limits
-pub read-fits : (bytes : List ℕ) (f : File) → All (λ b. b < 256) bytes → readFile bytes ≡ found f → Fits f
-read-fits bytes f h e =
+pub reads-within : (bytes : List ℕ) (f : File) → AreBytes bytes → readFile bytes ≡ found f → Fits f
+reads-within bytes f h e =
     let r = file-read-with bytes FitsStep (step-gives bytes h) f e in
     record {
       task = r .0 .task;

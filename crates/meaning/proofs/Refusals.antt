@@ -14,10 +14,8 @@ use Rattle.meaning.specs.File.{Step, File}
 use Rattle.meaning.specs.Layout.{items, ascending, field, count, mask, reference, action, clause, step, Kind, plain, one, two, clauses, actionKinds, stateKinds, entry, entries, readTask, readFile}
 use Rattle.meaning.specs.Rules.{_⊢_}
 use Rattle.meaning.specs.Step.{Check, statement, derivation, checkBy, checkStep}
-use Rattle.meaning.specs.declared.Reply.{Reply}
-use Rattle.meaning.specs.declared.Reply.the-variants.{Accepted, Refused}
+use Rattle.meaning.specs.declared.Reply.the-variants.{Refused}
 use Rattle.meaning.specs.Reply.{checkSteps, checkFile, replyTo, replyOf}
-use Rattle.meaning.specs.declared.Answer.{Answer}
 use Rattle.meaning.specs.declared.Answer.the-variants as answer
 use Rattle.meaning.specs.Question.{answerTo, answerOf}
 use Rattle.meaning.specs.Points.{RefusalNumbers, AnswerNumbers}

@@ -1,13 +1,13 @@
 -- The entries as sets of the task's transition system: what each kind holds, and when an inclusion is true.
 -- Assumes nothing.
-use mathlib.Core.Path.{_≡_, refl, ap, subst, sym, _∙_}
+use mathlib.Core.Path.{refl, subst, sym, _∙_}
 use mathlib.Core.Logic.{_↔_, _⊎_, inl, inr}
 use Prim.Native.Nat.{ℕ, _^_, _<_}
 use mathlib.Core.Bool.{Bool, false, not, _&&_, _||_}
 use lib.ListN.{getD, length}
 use lib.Dec.{T, eqb, eqb→eq, eqb-refl, lt→ltb}
 use Rattle.task.specs.Task.{Task, actionAt, applies, after}
-use Rattle.task.specs.System.{System, States, Actions, Progression, Regression}
+use Rattle.task.specs.System.{States, Actions, Progression, Regression}
 use Rattle.task.proofs.Tests.{and-left, and-right, and-both, or-cases, or-left, or-right, excluded, never, not-of, implied}
 use Rattle.task.proofs.Moves.{Bounded, system}
 use Rattle.meaning.specs.File.{File, actionSetAt, stateSetAt, actionKind, stateKind, first, second, firstAction, secondAction}

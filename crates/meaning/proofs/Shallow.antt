@@ -1,19 +1,16 @@
 -- The walk that answers whether an entry may be asked about: depth at most d and no progression, by one recursion on d.
 -- Assumes nothing.
-use mathlib.Core.Path.{_≡_, refl, sym, ap, ap₂, _∙_}
-use Prim.Native.Nat.{ℕ, zero, suc, _<_, _≤_, max}
+use mathlib.Core.Path.{_≡_, refl, ap, ap₂, _∙_}
+use Prim.Native.Nat.{ℕ, zero, suc, _<_, max}
 use native.Mathlib.Omega.{arith}
 use mathlib.Core.Bool.{Bool, true, false, not, _&&_, _||_}
-use mathlib.Core.List.{List}
 use lib.Dec.{leb, leb·suc-suc, leb·suc-zero}
 use borrow.Author.Tests.{le-leb, lt-leb}
 use native.Mathlib.Decide.{decLe}
-use Rattle.meaning.specs.Result.{found}
 use Rattle.meaning.specs.File.{StateSet, basic, complement, intersection, union, progression, regression, File, stateSetAt}
-use Rattle.meaning.specs.Layout.{readFile}
 use Rattle.meaning.proofs.Reading.{file-read}
 use Rattle.meaning.proofs.Order.{Earlier, Ordered, ordered}
-use Rattle.meaning.specs.Sets.{rounds, settled}
+use Rattle.meaning.specs.Sets.{rounds}
 use Rattle.meaning.proofs.Settled.{settled-node}
 use Rattle.meaning.specs.Question.{depthNode, depth, progressionNode, hasProgression, shallowNode, shallow}
 use Rattle.meaning.specs.Points.{Shortcut}

@@ -1,6 +1,5 @@
 -- A task that fits the format stays within its facts.
 -- Assumes nothing.
-use Prim.Native.Nat.{ℕ}
 use Rattle.task.specs.Task.{Task, actionAt}
 use Rattle.task.proofs.Moves.{Bounded, bounded}
 use Rattle.meaning.specs.Writing.{FitsTask, FitsAction}

@@ -1,16 +1,15 @@
 -- What is written of a certificate that fits is bytes.
 -- Assumes nothing.
-use Prim.Native.Nat.{ℕ, zero, suc, _+_, _*_, _/_, _%_, _<_, _≤_}
+use Prim.Native.Nat.{ℕ, zero, suc, _+_, _/_, _%_, _<_}
 use native.Mathlib.Omega.{arith}
-use mathlib.Core.Bool.{Bool, _&&_}
 use mathlib.Core.List.{List, [], _∷_, _++_}
 use lib.ListN.{length}
-use lib.Dec.{T, ltb, lt→ltb}
+use lib.Dec.{ltb, lt→ltb}
 use Rattle.task.specs.Reach.{every}
 use Rattle.task.proofs.Tests.{and-left, and-right, and-both}
 use Rattle.meaning.specs.declared.Clause.{Clause}
 use Rattle.meaning.specs.Bytes.{bytesOf, AreBytes}
-use Rattle.meaning.specs.File.{ActionSet, all, listed, either, Basic, empty, init, goal, explicit, horn, twoCnf, StateSet, basic, complement, intersection, union, progression, regression, Step, actionKind, basicKind, stateKind}
+use Rattle.meaning.specs.File.{ActionSet, all, listed, either, empty, init, goal, explicit, horn, twoCnf, StateSet, basic, complement, intersection, union, progression, regression, Step, actionKind, basicKind, stateKind}
 use Rattle.meaning.specs.Writing.{each, writeClause, writeEntry, actionBody, basicBody, stateBody, writeActionSet, writeStateSet, writeStep, counted, writeCertificate, AllFrom, FitsStep}
 use Rattle.meaning.proofs.Written.{anything}
 

@@ -2,7 +2,7 @@
 -- Assumes nothing.
 use mathlib.Core.Path.{_≡_}
 use mathlib.Core.Logic.{_↔_, _⊎_}
-use mathlib.Core.Bool.{Bool, not, _&&_}
+use mathlib.Core.Bool.{not, _&&_}
 use Prim.Native.Nat.{ℕ, zero, suc, _≤_, _<_}
 use mathlib.Core.List.{List, [], _∷_, map}
 use lib.ListN.{length, take, drop}
@@ -12,13 +12,12 @@ use Rattle.task.specs.Reach.{member, Safe, Unsolvable, Dead, Reachable, AtMostR
 use Rattle.task.specs.System.{System, States, Actions}
 use Rattle.meaning.specs.Result.{found}
 use Rattle.meaning.specs.Bytes.{AreBytes}
-use Rattle.meaning.specs.File.{Step, File, stepAt}
+use Rattle.meaning.specs.File.{File, stepAt}
 use Rattle.meaning.specs.Layout.{readFile}
 use Rattle.meaning.specs.Writing.{Ascending, fileOf, writeFile, Fits, Lawful}
 use Rattle.meaning.specs.Sets.{inSet, statesWithin, actionsWithin}
 use Rattle.meaning.specs.Rules.{rules}
 use Rattle.meaning.specs.Truth.{SoundRules}
-use Rattle.meaning.specs.declared.Reply.{Reply}
 use Rattle.meaning.specs.declared.Reply.the-variants.{Accepted, Refused}
 use Rattle.meaning.specs.declared.Answer.the-variants as answer
 use Rattle.meaning.specs.Reply.{checkSteps, replyOf}
@@ -71,7 +70,10 @@ CertainCertificate =
 abbrev pub SampleForm : Type 0
 SampleForm = fileOf (take 68 (drop 4 sample)) (certificateOf (0 ∷ 1 ∷ 2 ∷ [])) ≡ sample
 
--- Reading what was written gives it back.
+-- What is read is within document 01's limits, and reading what was written within them gives it back.
+abbrev pub ReadsWithin : Type 0
+ReadsWithin = (bytes : List ℕ) (f : File) → AreBytes bytes → readFile bytes ≡ found f → Fits f
+
 abbrev pub ReadsBack : Type 0
 ReadsBack = (f : File) → Fits f → length (writeFile f) ≤ 65536 → readFile (writeFile f) ≡ found f
 

@@ -10,6 +10,7 @@ use inclusion::listed::leaf_holds;
 use inclusion::marks::is_marked;
 use layout::read_layout;
 use meaning::Answer;
+use shapes::trees::node_of;
 use task::after;
 use task::applies;
 ghost use mathlib.Core.Path.{_≡_};
@@ -18,7 +19,6 @@ ghost use Prim.Native.Nat.{_<_, _^_};
 ghost use lib.Dec.{ltb};
 ghost use Rattle.certificate.specs.Known.{Known, decoded};
 ghost use Rattle.meaning.specs.Sets.{inActions, regressed, inSet};
-ghost use Rattle.shapes.specs.Flat.{numbersOf};
 ghost use Rattle.meaning.specs.Question.{hasProgression, shallow, askable, answerOf};
 ghost use Rattle.question.specs.Asked.{answerIn};
 
@@ -41,25 +41,6 @@ fn is_shallow(file: &[u8], at: Places, index: &[u16; 768], e: u16, d: u8) -> boo
         StateEntry::Progression(_, _) => false,
         StateEntry::Regression(a, _) => is_shallow(file, at, index, a, d - 1),
         _ => true,
-    }
-}
-
-// An entry's kind, and the place and count of its items, 0 where it has none.
-fn numbers(entry: StateEntry) -> [u32; 3]
-    ensures { λ r. ⌜ r ≡ numbersOf entry ⌝ }
-{
-    match entry {
-        StateEntry::Empty => [0, 0, 0],
-        StateEntry::Init => [1, 0, 0],
-        StateEntry::Goal => [2, 0, 0],
-        StateEntry::Explicit(span) => [3, span.at, span.count as u32],
-        StateEntry::Horn(span) => [4, span.at, span.count as u32],
-        StateEntry::TwoCnf(span) => [5, span.at, span.count as u32],
-        StateEntry::Complement(_) => [6, 0, 0],
-        StateEntry::Intersection(_, _) => [7, 0, 0],
-        StateEntry::Union(_, _) => [8, 0, 0],
-        StateEntry::Progression(_, _) => [9, 0, 0],
-        StateEntry::Regression(_, _) => [10, 0, 0],
     }
 }
 
@@ -100,8 +81,16 @@ fn member(file: &[u8], at: Places, index: &[u16; 768], e: u16, s: u64) -> bool
         StateEntry::Progression(_, _) => false,
         StateEntry::Regression(a, b) => try_each_action(file, at, index, a, b, s),
         _ => {
-            let n = numbers(entry);
-            leaf_holds(file, at.init, at.goal, n[0], n[1], n[2], s)
+            let x = node_of(entry);
+            leaf_holds(
+                file,
+                at.init,
+                at.goal,
+                x.kind as u32,
+                x.at,
+                x.count as u32,
+                s,
+            )
         }
     }
 }

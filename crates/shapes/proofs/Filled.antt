@@ -2,13 +2,13 @@
 -- Assumes nothing.
 use mathlib.Core.Path.{_≡_, refl, ap, subst, sym}
 use mathlib.Core.Logic.{_↔_, Iff·trans, Iff·and, Iff·rfl}
-use Prim.Native.Nat.{ℕ, suc, _≤_}
+use Prim.Native.Nat.{ℕ, suc}
 use mathlib.Core.Bool.{Bool, true, false, not}
 use mathlib.Core.List.{List, [], _∷_, _++_, map}
-use lib.ListN.{length, List·getD-eq-default}
+use lib.ListN.{length}
 use lib.Dec.{T, eqb}
 use Rattle.task.specs.declared.Action.{Action}
-use Rattle.meaning.specs.File.{File, StateSet, basic, empty, stateSetAt, stateKind, basicKind}
+use Rattle.meaning.specs.File.{File}
 use Rattle.meaning.proofs.Order.{Ordered}
 use Rattle.meaning.specs.Shapes.{keep, kindAt}
 use Rattle.shapes.specs.Counter.{Leaf, seen, NoneIn, Counter}
@@ -57,11 +57,6 @@ module _ (f : File) where
       go true e = e
       go false e = ap suc e
 
-  -- a number that names no entry stands for a set of kind 0
-  pub past-empty : (e : ℕ) → length (f .stateSets) ≤ e → T (eqb (kindAt f e) 0)
-  unfolding kindAt stateSetAt stateKind basicKind
-  past-empty e l = subst (λ (x : StateSet). T (eqb (stateKind x) 0)) (sym (List·getD-eq-default (f .stateSets) (basic empty) l)) tt
-
   module _ (o : Ordered f) where
     module _ (a : Action) (s : ℕ) where
       pub none-pad : (x : Leaf) → T (eqb (kindOf f x) 0) → (xs : List Leaf) → NoneIn f a s xs ↔ NoneIn f a s (x ∷ xs)
@@ -69,10 +64,6 @@ module _ (f : File) where
         (λ p. (subst (λ (t : Bool). T (not t)) (sym (in-empty f o (x .entry) e (seen (x .through) a s))) tt, p)),
         (λ p. p .1),
       )
-
-      pub none-insert : (x : Leaf) → T (eqb (kindOf f x) 0) → (xs ys : List Leaf) → NoneIn f a s (xs ++ ys) ↔ NoneIn f a s (xs ++ x ∷ ys)
-      none-insert x e [] ys = none-pad x e ys
-      none-insert x e (y ∷ xs) ys = Iff·and Iff·rfl (none-insert x e xs ys)
 
       pub none-filled : (xs : List Leaf) → NoneIn f a s (notEmpty f xs) ↔ NoneIn f a s xs
       unfolding notEmpty
@@ -98,10 +89,3 @@ module _ (f : File) where
       pub drop-empty : (left xs : List Leaf) → Counter f acts left (notEmpty f xs) ↔ Counter f acts left xs
       drop-empty left xs =
           (counter-right left (notEmpty f xs) xs (λ a s. none-filled a s xs .0), counter-right left xs (notEmpty f xs) (λ a s. none-filled a s xs .1))
-
-      pub insert-empty : (left : List Leaf) (x : Leaf) → T (eqb (kindOf f x) 0) → (xs ys : List Leaf)
-          → Counter f acts left (xs ++ ys) ↔ Counter f acts left (xs ++ x ∷ ys)
-      insert-empty left x e xs ys = (
-        counter-right left (xs ++ ys) (xs ++ x ∷ ys) (λ a s. none-insert a s x e xs ys .0),
-        counter-right left (xs ++ x ∷ ys) (xs ++ ys) (λ a s. none-insert a s x e xs ys .1),
-      )

@@ -10,14 +10,14 @@ use lib.ListN.{length, take, getD, length-append, List·getD-append}
 use lib.Seq.{getD-append-add, getD-take, getD-at}
 use lib.Dec.{T, eqb, le→leb, leb→le}
 use Rattle.certificate.specs.declared.StateEntry.{StateEntry}
-use Rattle.certificate.specs.declared.StateEntry.the-variants.{Empty, Init, Goal, Explicit, Horn, TwoCnf, Complement, Intersection, Union, Progression, Regression}
-use Rattle.meaning.specs.File.{File, stateSetAt, stateKind, basicKind, StateSet, empty, init, goal, explicit, horn, twoCnf, basic, complement, intersection, union, progression, regression}
-use Rattle.certificate.specs.Views.{viewOf, viewOfBasic}
+use Rattle.meaning.specs.File.{File, stateSetAt, stateKind, StateSet, basic}
+use Rattle.certificate.specs.Views.{viewOf}
 use Rattle.certificate.specs.Known.{statePlace}
 use Rattle.meaning.specs.Shapes.{kindAt, isBasic}
 use Rattle.shapes.specs.Counter.{Leaf}
 use Rattle.task.specs.Reach.{every}
 use Rattle.shapes.proofs.Lists.{every-index}
+use Rattle.shapes.proofs.NodeLaws.{tells}
 use Rattle.shapes.specs.Flat.{numbersOf, flag, flatLeaf, flatOf}
 
 -- ---- a view's three numbers
@@ -28,31 +28,11 @@ numberOf i v = getD (numbersOf v) i 0
 
 three : (v : StateEntry) → length (numbersOf v) ≡ 3
 unfolding numbersOf
-three Empty = refl
-three Init = refl
-three Goal = refl
-three (Explicit s) = refl
-three (Horn s) = refl
-three (TwoCnf s) = refl
-three (Complement a) = refl
-three (Intersection a b) = refl
-three (Union a b) = refl
-three (Progression a b) = refl
-three (Regression a b) = refl
+three v = refl
 
-kind-number : (p : ℕ) (x : StateSet) → numberOf 0 (viewOf p x) ≡ stateKind x
-unfolding numbersOf viewOf viewOfBasic stateKind basicKind
-kind-number p (basic empty) = refl
-kind-number p (basic init) = refl
-kind-number p (basic goal) = refl
-kind-number p (basic (explicit ss)) = refl
-kind-number p (basic (horn cs)) = refl
-kind-number p (basic (twoCnf cs)) = refl
-kind-number p (complement a) = refl
-kind-number p (intersection a b) = refl
-kind-number p (union a b) = refl
-kind-number p (progression a b) = refl
-kind-number p (regression a b) = refl
+pub kind-number : (p : ℕ) (x : StateSet) → numberOf 0 (viewOf p x) ≡ stateKind x
+unfolding numbersOf
+kind-number p x = tells p x .kind
 
 flag-one : (t : Bool) → eqb (flag t) 1 ≡ t
 unfolding flag

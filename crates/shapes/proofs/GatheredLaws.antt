@@ -2,11 +2,11 @@
 -- Assumes nothing.
 use mathlib.Core.Path.{_≡_, refl, sym, ap, _∙_, subst}
 use mathlib.Core.Logic.{inl, inr}
-use Prim.Native.Nat.{ℕ, zero, suc, _+_, _≤_}
+use Prim.Native.Nat.{ℕ, _+_, _≤_}
 use native.Mathlib.Omega.{arith}
 use mathlib.Core.Bool.{Bool, true, false, _&&_, _||_}
 use mathlib.Core.List.{List, _++_}
-use lib.ListN.{length, replicate}
+use lib.ListN.{length}
 use lib.Dec.{T, eqb, eqb→eq, leb}
 use Rattle.task.specs.Reach.{member, every}
 use Rattle.task.proofs.Tests.{and-left, excluded, never, same, holds}
@@ -146,9 +146,3 @@ module _ (f : File) (index : List ℕ) (rule a b : ℕ) (p : Parts) (part : Part
     gathered-right e =
         gathers f index rule a b lit′ left₀ left right₀ right n fill′ (p .actions) r dec zeros (part .actions ok)
         (by-rule f rule a b p part (λ u. sorted-four u e) (λ u. sorted-sorts u e))
-
--- an array of zeros, as `gather` asks for
-pub zeros-of : (n : ℕ) → Zeros (replicate n 0)
-zeros-of zero i = refl
-zeros-of (suc n) zero = refl
-zeros-of (suc n) (suc i) = zeros-of n i

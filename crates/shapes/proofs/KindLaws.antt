@@ -5,12 +5,12 @@ use mathlib.Core.Logic.{inl, inr}
 use Prim.Native.Nat.{ℕ, zero, suc, _+_, _-_, _*_, _≤_, _<_}
 use native.Mathlib.Nat.{not-suc-le-zero, le-of-suc-le-suc}
 use native.Mathlib.Omega.{arith}
-use mathlib.Core.Bool.{Bool, true, false, _||_, or-assoc}
+use mathlib.Core.Bool.{Bool, false, _||_, or-assoc}
 use mathlib.Core.List.{List, [], _∷_, _++_}
 use lib.ListN.{length, take, getD, length-map}
 use lib.Dec.{T, eqb, eqb→eq, ltb, ltb→lt, nltb→le}
 use Rattle.task.specs.Reach.{member}
-use Rattle.task.proofs.Tests.{or-left, or-right, or-cases, excluded, same, member-first, member-rest, member-cases, member-none}
+use Rattle.task.proofs.Tests.{both-ways, or-left, or-right, or-cases, excluded, same, member-first, member-rest, member-cases, member-none}
 use Rattle.meaning.specs.File.{File}
 use Rattle.meaning.specs.Shapes.{kindAt}
 use Rattle.shapes.specs.Counter.{Leaf}
@@ -20,13 +20,6 @@ use Rattle.shapes.specs.Arrays.{Put}
 use Rattle.shapes.specs.Decided.{kindIn, mayAnchor, Anchor}
 use Rattle.meaning.proofs.Below.{some-at, some-of}
 use Rattle.shapes.proofs.FlatLaws.{at-kind, at-flag}
-
--- two tests of which each implies the other are equal
-pub both-ways : (a b : Bool) → (T a → T b) → (T b → T a) → a ≡ b
-both-ways true true f g = refl
-both-ways true false f g = absurd (f tt)
-both-ways false true f g = absurd (g tt)
-both-ways false false f g = refl
 
 -- ---- a number in a list, by its index
 

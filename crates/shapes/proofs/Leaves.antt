@@ -10,7 +10,7 @@ use mathlib.Core.List.{List, [], _∷_, _++_}
 use lib.ListN.{getD}
 use lib.Dec.{T, eqb, eqb→eq, leb}
 use Rattle.task.specs.Reach.{every}
-use Rattle.task.proofs.Tests.{excluded, holds, is-true}
+use Rattle.task.proofs.Tests.{excluded}
 use Rattle.meaning.specs.File.{Basic, empty, init, goal, explicit, horn, twoCnf, StateSet, basic, complement, intersection, union, progression, regression, File, stateSetAt, stateKind, basicKind, first, second}
 use Rattle.meaning.proofs.Order.{Earlier, Ordered}
 use Rattle.meaning.specs.Sets.{inBasic, stateNode, inSet}
@@ -101,14 +101,6 @@ module _ (f : File) (o : Ordered f) where
         by-tree (λ e. t e ≡ list (leaves f k e))
         (λ e y p r. two e y ∙ ap₂ op p r ∙ sym (append _ _) ∙ sym (ap list (leaves-tree e y)))
         (λ e n. sym (one e n) ∙ sym (ap list (leaves-leaf e n)))
-
-    -- no leaf is of the tree's kind
-    pub leaves-other : (e : ℕ) → T (every (λ x. not (eqb (kindAt f x) k)) (leaves f k e))
-    leaves-other e =
-        holds (sym (by-leaves (λ _. true) _&&_ (every other) (every-append other) (λ x n. every-one other x ∙ is-true (other x) n) (λ _ _. refl) e))
-      where
-        other : ℕ → Bool
-        other x = not (eqb (kindAt f x) k)
 
   -- ---- what entries hold
 

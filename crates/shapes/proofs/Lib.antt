@@ -3,8 +3,8 @@ pub mod Leaves
 pub mod Moved
 pub mod Filled
 pub mod LeafKinds
-pub mod FlatLaws
 pub mod NodeLaws
+pub mod FlatLaws
 pub mod TreeLaws
 pub mod ArrayLaws
 pub mod KindLaws

@@ -14,33 +14,33 @@ use Rattle.shapes.specs.Flat.{numbersOf}
 use Rattle.shapes.specs.declared.trees.Node.{Node}
 use Rattle.shapes.specs.Trees.{nodeOf, nodeAt}
 
--- a node that says these of an entry that stands at a place
-record Tells (p : ℕ) (x : StateSet) (n : Node) : Type 0 where
-  kind : n .kind ≡ stateKind x
-  named : (n .first ≡ first x) × (n .second ≡ second x)
-  numbers : numbersOf (viewOf p x) ≡ n .kind ∷ n .at ∷ n .count ∷ []
+-- a node that says these of an entry
+pub record Tells (x : StateSet) (n : Node) : Type 0 where
+  pub kind : n .kind ≡ stateKind x
+  pub named : (n .first ≡ first x) × (n .second ≡ second x)
 
-tells : (p : ℕ) (x : StateSet) → Tells p x (nodeOf (viewOf p x))
-unfolding nodeOf viewOf viewOfBasic span stateKind basicKind first second numbersOf
-tells p (basic empty) = record { kind = refl; named = (refl, refl); numbers = refl }
-tells p (basic init) = record { kind = refl; named = (refl, refl); numbers = refl }
-tells p (basic goal) = record { kind = refl; named = (refl, refl); numbers = refl }
-tells p (basic (explicit ss)) = record { kind = refl; named = (refl, refl); numbers = refl }
-tells p (basic (horn cs)) = record { kind = refl; named = (refl, refl); numbers = refl }
-tells p (basic (twoCnf cs)) = record { kind = refl; named = (refl, refl); numbers = refl }
-tells p (complement a) = record { kind = refl; named = (refl, refl); numbers = refl }
-tells p (intersection a b) = record { kind = refl; named = (refl, refl); numbers = refl }
-tells p (union a b) = record { kind = refl; named = (refl, refl); numbers = refl }
-tells p (progression a e) = record { kind = refl; named = (refl, refl); numbers = refl }
-tells p (regression a e) = record { kind = refl; named = (refl, refl); numbers = refl }
+pub tells : (p : ℕ) (x : StateSet) → Tells x (nodeOf (viewOf p x))
+unfolding nodeOf viewOf viewOfBasic span stateKind basicKind first second
+tells p (basic empty) = record { kind = refl; named = (refl, refl) }
+tells p (basic init) = record { kind = refl; named = (refl, refl) }
+tells p (basic goal) = record { kind = refl; named = (refl, refl) }
+tells p (basic (explicit ss)) = record { kind = refl; named = (refl, refl) }
+tells p (basic (horn cs)) = record { kind = refl; named = (refl, refl) }
+tells p (basic (twoCnf cs)) = record { kind = refl; named = (refl, refl) }
+tells p (complement a) = record { kind = refl; named = (refl, refl) }
+tells p (intersection a b) = record { kind = refl; named = (refl, refl) }
+tells p (union a b) = record { kind = refl; named = (refl, refl) }
+tells p (progression a e) = record { kind = refl; named = (refl, refl) }
+tells p (regression a e) = record { kind = refl; named = (refl, refl) }
 
 module _ (index : List ℕ) (f : File) (e : ℕ) where
-  tells-at : Tells (statePlace index e) (stateSetAt f e) (nodeAt index f e)
+  tells-at : Tells (stateSetAt f e) (nodeAt index f e)
   unfolding nodeAt
   tells-at = tells (statePlace index e) (stateSetAt f e)
 
   pub node-numbers : numbersOf (viewOf (statePlace index e) (stateSetAt f e)) ≡ nodeAt index f e .kind ∷ nodeAt index f e .at ∷ nodeAt index f e .count ∷ []
-  node-numbers = tells-at .numbers
+  unfolding numbersOf nodeAt
+  node-numbers = refl
 
   -- of what was read as the entry's numbers
   module _ (n : Node) (r : n ≡ nodeAt index f e) where

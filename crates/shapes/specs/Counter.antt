@@ -8,7 +8,7 @@ use lib.ListN.{length}
 use lib.Dec.{T}
 use Rattle.task.specs.declared.Action.{Action}
 use Rattle.task.specs.Task.{actionAt, applies, after}
-use Rattle.meaning.specs.File.{File, stateSetAt, second}
+use Rattle.meaning.specs.File.{File}
 use Rattle.meaning.specs.Sets.{inActions, inSet}
 use Rattle.meaning.specs.Shapes.{keep, Sides, child, isComplement}
 

@@ -1,6 +1,6 @@
 pub mod Counter
+pub mod Trees
 pub mod Flat
 pub mod Gathered
-pub mod Trees
 pub mod Arrays
 pub mod Decided

@@ -90,7 +90,7 @@ fn put_entry(
 }
 
 // Writes the leaves of those entries that are wanted.
-pub fn put(
+pub(crate) fn put(
     file: &[u8],
     at: Places,
     index: &[u16; 768],

@@ -73,7 +73,14 @@ fn bracket(file: &[u8], at: Places, index: &[u16; 768], k: u8, a: u16, b: u16) -
 }
 
 // The leaves of a statement as written; not `ok` where there are too many, or no bracket or several where one has to be.
-pub fn parts_of(file: &[u8], at: Places, index: &[u16; 768], rule: u8, a: u16, b: u16) -> Parts
+pub(crate) fn parts_of(
+    file: &[u8],
+    at: Places,
+    index: &[u16; 768],
+    rule: u8,
+    a: u16,
+    b: u16,
+) -> Parts
     requires { ⌜ Known (now file) at (now index) ⌝ }
     requires { ⌜ (1 ≤ rule) × (rule ≤ 4) ⌝ }
     ensures { λ r. ⌜ Parted (decoded (now (file .entry))) rule a b r ⌝ }
@@ -88,7 +95,7 @@ pub fn parts_of(file: &[u8], at: Places, index: &[u16; 768], rule: u8, a: u16, b
 }
 
 // Whether the leaves are literals and, inside the bracket, of kinds 0 to 5.
-pub fn literals(file: &[u8], at: Places, index: &[u16; 768], p: Parts) -> bool
+pub(crate) fn literals(file: &[u8], at: Places, index: &[u16; 768], p: Parts) -> bool
     requires { ⌜ Known (now file) at (now index) ⌝ }
     requires { ⌜ SoundParts p ⌝ }
     ensures { λ r. ⌜ r ≡ literalsOf (decoded (now (file .entry))) (sidesIn p) ⌝ }

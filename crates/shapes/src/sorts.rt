@@ -112,7 +112,13 @@ fn permits(rule: u8, x: Flags, right: u32, anchored: bool) -> bool
 }
 
 // What the arrays tell of a statement.
-pub fn decide(rule: u8, left: &[u32; 96], right: &[u32; 64], n: Counts, actions: u16) -> Gathered
+pub(crate) fn decide(
+    rule: u8,
+    left: &[u32; 96],
+    right: &[u32; 64],
+    n: Counts,
+    actions: u16,
+) -> Gathered
     requires { ⌜ (n .outside ≤ n .left) × (n .left ≤ 24) × (n .right ≤ 16) ⌝ }
     ensures { λ r. ⌜ Decided rule (now (left .entry)) (now (right .entry)) n actions r ⌝ }
 {

@@ -53,7 +53,7 @@ fn naming(kind: u8, a: u16, b: u16) -> Node
     }
 }
 
-fn node_of(x: StateEntry) -> Node
+pub fn node_of(x: StateEntry) -> Node
     ensures { λ r. ⌜ r ≡ nodeOf x ⌝ }
 {
     match x {
@@ -72,7 +72,7 @@ fn node_of(x: StateEntry) -> Node
 }
 
 // The numbers of an entry.
-pub fn node_at(file: &[u8], at: Places, index: &[u16; 768], e: u16) -> Node
+pub(crate) fn node_at(file: &[u8], at: Places, index: &[u16; 768], e: u16) -> Node
     requires { ⌜ Known (now file) at (now index) ⌝ }
     ensures { λ r. ⌜ r ≡ nodeAt (now (index .entry)) (decoded (now (file .entry))) e ⌝ }
 {
@@ -96,7 +96,14 @@ fn with(xs: Leaves, e: u16) -> Leaves
 }
 
 // The leaves of the tree of entries of kind k at entry e, after those that there are; nine are enough.
-pub fn collect(file: &[u8], at: Places, index: &[u16; 768], k: u8, e: u16, xs: Leaves) -> Leaves
+pub(crate) fn collect(
+    file: &[u8],
+    at: Places,
+    index: &[u16; 768],
+    k: u8,
+    e: u16,
+    xs: Leaves,
+) -> Leaves
     requires { ⌜ Known (now file) at (now index) ⌝ }
     requires { ⌜ T (eqb k 7 || eqb k 8) ⌝ }
     requires { ⌜ Sound xs ⌝ }
@@ -114,7 +121,7 @@ pub fn collect(file: &[u8], at: Places, index: &[u16; 768], k: u8, e: u16, xs: L
 }
 
 // No entries.
-pub fn none() -> Leaves
+pub(crate) fn none() -> Leaves
     ensures { λ r. ⌜ Lists r [] ⌝ }
 {
     Leaves {
@@ -124,14 +131,14 @@ pub fn none() -> Leaves
 }
 
 // One entry.
-pub fn one(e: u16) -> Leaves
+pub(crate) fn one(e: u16) -> Leaves
     ensures { λ r. ⌜ Lists r (e ∷ []) ⌝ }
 {
     with(none(), e)
 }
 
 // The first nine leaves of the tree of entries of kind k at entry e.
-pub fn tree(file: &[u8], at: Places, index: &[u16; 768], k: u8, e: u16) -> Leaves
+pub(crate) fn tree(file: &[u8], at: Places, index: &[u16; 768], k: u8, e: u16) -> Leaves
     requires { ⌜ Known (now file) at (now index) ⌝ }
     requires { ⌜ T (eqb k 7 || eqb k 8) ⌝ }
     ensures { λ r. ⌜ Lists r (take 9 (leaves (decoded (now (file .entry))) k e)) ⌝ }
@@ -148,7 +155,7 @@ fn with_wanted(xs: Leaves, e: u16, want: bool) -> Leaves
 }
 
 // Whether an entry is of kind k, or whether it is not.
-pub fn has_kind(file: &[u8], at: Places, index: &[u16; 768], e: u16, k: u8, is: bool) -> bool
+pub(crate) fn has_kind(file: &[u8], at: Places, index: &[u16; 768], e: u16, k: u8, is: bool) -> bool
     requires { ⌜ Known (now file) at (now index) ⌝ }
     ensures { λ r. ⌜ r ≡ hasKind (decoded (now (file .entry))) k is e ⌝ }
 {
@@ -157,7 +164,14 @@ pub fn has_kind(file: &[u8], at: Places, index: &[u16; 768], e: u16, k: u8, is: 
 }
 
 // The entries of kind k, or those that are of other kinds.
-pub fn of_kind(file: &[u8], at: Places, index: &[u16; 768], xs: Leaves, k: u8, is: bool) -> Leaves
+pub(crate) fn of_kind(
+    file: &[u8],
+    at: Places,
+    index: &[u16; 768],
+    xs: Leaves,
+    k: u8,
+    is: bool,
+) -> Leaves
     requires { ⌜ Known (now file) at (now index) ⌝ }
     requires { ⌜ Sound xs ⌝ }
     ensures { λ r. ⌜ Lists r (keep (hasKind (decoded (now (file .entry))) k is) (listOf xs)) ⌝ }
@@ -186,7 +200,13 @@ fn is_basic(file: &[u8], at: Places, index: &[u16; 768], e: u16, turned: bool) -
 }
 
 // Whether all entries are.
-pub fn all_basic(file: &[u8], at: Places, index: &[u16; 768], xs: Leaves, turned: bool) -> bool
+pub(crate) fn all_basic(
+    file: &[u8],
+    at: Places,
+    index: &[u16; 768],
+    xs: Leaves,
+    turned: bool,
+) -> bool
     requires { ⌜ Known (now file) at (now index) ⌝ }
     requires { ⌜ Sound xs ⌝ }
     ensures { λ r. ⌜ r ≡ every (basicOr (decoded (now (file .entry))) turned) (listOf xs) ⌝ }

@@ -7,7 +7,7 @@ use native.Mathlib.Decide.{decLt}
 use native.Mathlib.Nat.{div-one, div-div-eq-div-mul, pow-suc, mul-comm, zero-div, div-eq-of-lt, lt-of-le-of-lt, sub-le, min-eq-right}
 use lib.Arith.{bin-ind}
 use lib.Pow.{pow-mono}
-use lib.Bits.{bitAnd, bitOr, and-step, or-step, and-shr, or-shr, or-lt, and-le-l, or-disjoint}
+use lib.Bits.{bitAnd, bitOr, and-step, or-step, and-shr, or-shr, or-lt, and-le-l}
 use lib.Dec.{T, eqb→eq}
 use Rattle.task.specs.Facts.{allOn, without}
 use Rattle.task.specs.Task.{after}
@@ -83,10 +83,6 @@ some-bit =
       | yes l ↦ let r = ih l in (suc (r .0), bit-suc (r .0) n ∙ r .1)
       | no l ↦ (0, omega (arith, bit-zero n))
     ])
-
--- a mask that grows by facts that were off is a larger number
-pub or-grows : (a m : ℕ) → ((f : ℕ) → min (bit f a) (bit f m) ≡ 0) → bitOr a m ≡ a + m
-or-grows a m h = or-disjoint a m (no-bits _ (λ f. bit-and f a m ∙ h f))
 
 -- ---- s without the facts of c
 

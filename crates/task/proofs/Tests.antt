@@ -4,7 +4,7 @@ use mathlib.Core.Path.{_≡_, refl, subst, sym}
 use mathlib.Core.Logic.{_⊎_, inl, inr}
 use Prim.Native.Nat.{ℕ}
 use mathlib.Core.Bool.{Bool, true, false, not, _&&_, _||_}
-use mathlib.Core.List.{List, [], _∷_, _++_}
+use mathlib.Core.List.{List, [], _∷_}
 use lib.Dec.{T, eqb, eqb→eq, eqb-refl}
 use Rattle.task.specs.Reach.{member, every, distinct}
 
@@ -48,6 +48,13 @@ pub implied : (a b : Bool) → T (not a || b) → T a → T b
 implied true b s t = s
 implied false b s t = absurd t
 
+-- two tests of which each implies the other are equal
+pub both-ways : (a b : Bool) → (T a → T b) → (T b → T a) → a ≡ b
+both-ways true true f g = refl
+both-ways true false f g = absurd (f tt)
+both-ways false true f g = absurd (g tt)
+both-ways false false f g = refl
+
 pub holds : {b : Bool} → b ≡ true → T b
 holds e = subst T (sym e) tt
 
@@ -80,22 +87,6 @@ member-cases x y ys m = elim (or-cases (eqb x y) (member x ys) m) [ inl e ↦ in
 pub member-under : (x y : ℕ) (xs ys : List ℕ) → (T (member x xs) → T (member x ys)) → T (member x (y ∷ xs)) → T (member x (y ∷ ys))
 member-under x y xs ys h m = elim (member-cases x y xs m) [ inl e ↦ member-first x y ys e | inr k ↦ member-rest x y ys (h k) ]
 
-pub member-append-left : (x : ℕ) (xs ys : List ℕ) → T (member x xs) → T (member x (xs ++ ys))
-member-append-left x [] ys m = absurd (member-none x m)
-member-append-left x (y ∷ xs) ys m = member-under x y xs (xs ++ ys) (member-append-left x xs ys) m
-
-pub member-append-right : (x : ℕ) (xs ys : List ℕ) → T (member x ys) → T (member x (xs ++ ys))
-member-append-right x [] ys m = m
-member-append-right x (y ∷ xs) ys m = member-rest x y (xs ++ ys) (member-append-right x xs ys m)
-
-pub member-append-cases : (x : ℕ) (xs ys : List ℕ) → T (member x (xs ++ ys)) → T (member x xs) ⊎ T (member x ys)
-member-append-cases x [] ys m = inr m
-member-append-cases x (y ∷ xs) ys m =
-    elim (member-cases x y (xs ++ ys) m) [
-      | inl e ↦ inl (member-first x y xs e)
-      | inr k ↦ elim (member-append-cases x xs ys k) [ inl l ↦ inl (member-rest x y xs l) | inr r ↦ inr r ]
-    ]
-
 -- ---- each element passes the test
 
 pub every-at : (t : ℕ → Bool) (xs : List ℕ) (x : ℕ) → T (every t xs) → T (member x xs) → T (t x)
@@ -122,11 +113,3 @@ distinct-none = tt
 pub distinct-more : (x : ℕ) (xs : List ℕ) → T (not (member x xs)) → T (distinct xs) → T (distinct (x ∷ xs))
 unfolding distinct
 distinct-more x xs n d = and-both (not (member x xs)) (distinct xs) n d
-
-pub distinct-first : (x : ℕ) (xs : List ℕ) → T (distinct (x ∷ xs)) → T (not (member x xs))
-unfolding distinct
-distinct-first x xs d = and-left (not (member x xs)) (distinct xs) d
-
-pub distinct-rest : (x : ℕ) (xs : List ℕ) → T (distinct (x ∷ xs)) → T (distinct xs)
-unfolding distinct
-distinct-rest x xs d = and-right (not (member x xs)) (distinct xs) d

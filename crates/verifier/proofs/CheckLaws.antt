@@ -19,8 +19,8 @@ use Rattle.certificate.specs.Known.{Known, decoded}
 use Rattle.certificate.proofs.KnownLaws.{known-read, known-steps}
 use Rattle.derivation.specs.declared.reply.StepReply.{StepReply}
 use Rattle.derivation.specs.declared.reply.StepReply.the-variants as step
-use Rattle.meaning.specs.Step.{Check, statement, derivation, ruleAt, wellFormed, checkBy, checkStep}
-use Rattle.meaning.specs.Rules.{Rule, _⊢_}
+use Rattle.meaning.specs.Step.{Check, statement, derivation, ruleAt, checkBy, checkStep}
+use Rattle.meaning.specs.Rules.{_⊢_}
 use Rattle.derivation.specs.StepReply.{stepReply}
 use Rattle.meaning.specs.declared.Reply.{Reply}
 use Rattle.meaning.specs.declared.Reply.the-variants.{Accepted, Refused}

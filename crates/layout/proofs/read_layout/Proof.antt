@@ -1,5 +1,7 @@
 -- `layout::read_layout` meets its contract.
 -- Assumes nothing.
+use native.Mathlib.Omega.{arith}
+use Prim.Native.Nat.{_+_, _≤_}
 use Rattle.layout.proofs.LayoutLaws.{rest-ends, length-bad, length-most, length-other, task-bad, rest-bad, lawful}
 use borrow.Author.Needs.{needs}
 use Rattle.layout.proofs.read_layout.Statement.{statement}
@@ -32,8 +34,9 @@ after-task-requires c κs =
     let if1! = c .before .before .before .before .before .before .if1 in
     length-most (a .file .now) (if1! .left)
 
-add-t22 : tie.Need-add-t22
-add-t22 c =
+-- a section's count is within the file
+ends : (c : tie.After-u16-at3) → (c .before .before .before .before .before .rest2 .given .0 .0 + 2 ≤ 65536) × (c .before .before .before .before .before .rest2 .given .0 .1 .0 + 2 ≤ 65536)
+ends c =
     let a = c .before .before .before .before .before .before .before .before .before .before .before .before .before .before .before .before .args in
     let if1! = c .before .before .before .before .before .before .before .before .before .before .before .before .before .before .if1 in
     let head! = c .before .before .before .before .before .before .before .before .task-head in
@@ -41,18 +44,7 @@ add-t22 c =
     let after-task! = c .before .before .before .before .before .before .before .after-task in
     let h = length-most (a .file .now) (if1! .left) in
     let e = rest-ends (a .file .now) (head! .result .facts) (head! .result .actions) (rest2! .given .1) (after-task! .ensures) in
-    search needs
-
-add-t29 : tie.Need-add-t29
-add-t29 c =
-    let a = c .before .before .before .before .before .before .before .before .before .before .before .before .before .before .before .before .args in
-    let if1! = c .before .before .before .before .before .before .before .before .before .before .before .before .before .before .if1 in
-    let head! = c .before .before .before .before .before .before .before .before .task-head in
-    let rest2! = c .before .before .before .before .before .rest2 in
-    let after-task! = c .before .before .before .before .before .before .before .after-task in
-    let h = length-most (a .file .now) (if1! .left) in
-    let e = rest-ends (a .file .now) (head! .result .facts) (head! .result .actions) (rest2! .given .1) (after-task! .ensures) in
-    search needs
+    (omega (arith, h, e .0), omega (arith, h, e .1))
 
 returns-4 : tie.Need-returns-4
 returns-4 c =
@@ -108,7 +100,7 @@ read-layout-spec =
     (λ c. search needs)
     (λ c κs. search needs)
     (λ c. search needs)
-    add-t22
-    add-t29
+    (λ c. let e = ends c .0 in search needs)
+    (λ c. let e = ends c .1 in search needs)
     returns-4
     returns-5)

@@ -36,7 +36,7 @@ use Rattle.inclusion.proofs.listed.leaf_holds.Reads as leaf-holds-reads
 use Rattle.inclusion.proofs.marks.is_marked.Reads as is-marked-reads
 use Rattle.task.proofs.after.Reads as after-reads
 use Rattle.task.proofs.applies.Reads as applies-reads
-use Rattle.question.proofs.numbers.Reads as numbers-reads
+use Rattle.shapes.proofs.trees.node_of.Reads as node-of-reads
 use Rattle.question.proofs.+member+try_each_action.{statement}
 use Rattle.question.proofs.+member+try_each_action.Tie.{close}
 
@@ -60,7 +60,7 @@ module _ (t : ℕ) where
   try-below = and 2 try-each-action-kinds.ps (falls 2 try-each-action-kinds.ps _<_ μ-try-each-action t) try-each-action.Pre
 
   abbrev member-calls : member-lts.Claims
-  member-calls = (state-set-reads.Asked, state-set-reads.Learnt, member-below, member.Post, try-below, try-each-action.Post, numbers-reads.Asked, numbers-reads.Learnt, leaf-holds-reads.Asked, leaf-holds-reads.Learnt)
+  member-calls = (state-set-reads.Asked, state-set-reads.Learnt, member-below, member.Post, try-below, try-each-action.Post, node-of-reads.Asked, node-of-reads.Learnt, leaf-holds-reads.Asked, leaf-holds-reads.Learnt)
 
   abbrev try-calls : try-each-action-lts.Claims
   try-calls = (action-marks-reads.Asked, action-marks-reads.Learnt, action-reads.Asked, action-reads.Learnt, is-marked-reads.Asked, is-marked-reads.Learnt, applies-reads.Asked, applies-reads.Learnt, after-reads.Asked, after-reads.Learnt, member-below, member.Post)
@@ -136,9 +136,9 @@ module _ (t : ℕ) where
 
   leaf-requires : member-lts.Need-leaf-holds-requires member-calls member-at member.Post
   leaf-requires c κs =
-      let v = c .before .before in
-      let b = leaf v (c .before .match .keys6) in
-      leaf-ordered _ _ _ (v .before .before .pre .1 .0) (e v) _ (v .state-set .ensures) _ (c .numbers .ensures) (b .0) (b .1)
+      let v = c .before .before .before .before in
+      let b = leaf v (c .before .before .before .match .keys6) in
+      leaf-ordered _ _ _ (v .before .before .pre .1 .0) (e v) _ (v .state-set .ensures) _ (c .before .before .node-of .ensures) (b .0) (b .1)
 
   complement-returns : member-lts.Need-returns member-calls member-at member.Post
   unfolding stateNode
@@ -169,10 +169,10 @@ module _ (t : ℕ) where
 
   leaf-returns : member-lts.Need-returns-6 member-calls member-at member.Post
   leaf-returns c =
-      let v = c .before .before .before in
+      let v = c .before .before .before .before .before in
       let s = v .before .before in
-      let b = leaf v (c .before .before .match .keys6) in
-      c .leaf-holds .ensures ∙ leaf-in _ _ _ (s .pre .1 .0) (e v) _ (v .state-set .ensures) _ (c .before .numbers .ensures) (b .0) (b .1) (s .args .s)
+      let b = leaf v (c .before .before .before .before .match .keys6) in
+      c .leaf-holds .ensures ∙ leaf-in _ _ _ (s .pre .1 .0) (e v) _ (v .state-set .ensures) _ (c .before .before .before .node-of .ensures) (b .0) (b .1) (s .args .s)
 
   -- ---- try_each_action
 
@@ -237,7 +237,7 @@ pub +member+try-each-action-spec : {M : Type 1} → statement M
     (λ c. search needs) (intersection-requires t) (intersection-requires-2 t)
     (λ c. search needs) (union-requires t) (union-requires-2 t)
     (λ c. search needs) (λ c. search needs) (regression-requires t)
-    (λ c κs. search needs) (λ c. search needs) (λ c. search needs) (λ c. search needs) (leaf-requires t)
+    (λ c κs. search needs) (λ c. search needs) (λ c. search needs) (leaf-requires t)
     (complement-returns t) (intersection-returns t) (union-returns t) (progression-returns t) (regression-returns t) (leaf-returns t))
     λ t. try-each-action-lts.spec (try-calls t) (try-at t) try-each-action.Post (Inv-loop t) (μ-loop t)
     (λ c κs. search needs) (λ c. (search needs, none-first _ _ _ _)) (λ c κs. search needs) (few t)

@@ -1,7 +1,6 @@
 -- `decide::verdict`: by cases.
 -- Assumes nothing.
 use mathlib.Core.Path.{refl}
-use borrow.Author.Needs.{needs}
 use Rattle.inclusion.specs.Verdict.{verdictBut}
 use Rattle.inclusion.proofs.decide.verdict.Statement.{statement}
 use Rattle.inclusion.proofs.decide.verdict.Tie as tie
