@@ -5,9 +5,6 @@ pub mod LayoutLaws
 pub mod MaskLaws
 pub mod OutlineLaws
 pub mod PartLaws
-pub mod ReaderWalks
-pub mod ReadNumber
-pub mod ReaderSteps
 pub mod RestLaws
 pub mod TaskLaws
 pub mod Verdicts

@@ -1,11 +1,11 @@
 // How a file is read, front to back, with replies 1 to 7 at the written places and in the written order.
-use crate::reader::entry_head;
-use crate::reader::task_head;
 use certificate::Outline;
 use certificate::Places;
 use certificate::bytes::u16_at;
 use certificate::bytes::u32_at;
 use certificate::bytes::u64_at;
+use reader::entry_head;
+use reader::task_head;
 ghost use mathlib.Core.Path.{_≡_};
 ghost use mathlib.Core.Bool.{true};
 ghost use Prim.Native.Nat.{ℕ, _+_, _*_, _/_, _^_, _<_, _≤_};
@@ -15,8 +15,6 @@ ghost use Rattle.meaning.specs.Bytes.{inside};
 ghost use Rattle.meaning.specs.Layout.{items, ascending, mask, reference, clause, upTo, entry, entries, count, readTask};
 ghost use Rattle.certificate.specs.Views.{outlineOf};
 ghost use Rattle.layout.specs.Verdicts.{verdict, verdictFrom, ruleOf, formKnown, formFits, formBody, actionForms, stateForms, formsOf, formAt, setsOf, walk, sectionAt, stepsAt, rest, restAt};
-
-pub mod reader;
 
 // What a reader says: no fault, or document 01's number and place.
 enum Verdict {

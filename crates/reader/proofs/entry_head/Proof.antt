@@ -1,4 +1,4 @@
--- `layout::reader::entry_head` meets its contract: a walk of its code, by hand. A reader is made at the entry's place, read, and walks on to the kind.
+-- `reader::entry_head` meets its contract: a walk of its code, by hand. A reader is made at the entry's place, read, and walks on to the kind.
 -- Assumes nothing.
 use mathlib.Core.Path.{refl}
 use Prim.Native.Nat.{ℕ, _<_, _^_, _+_}
@@ -36,24 +36,24 @@ use denote.Triple.Table.{entered, cited}
 use denote.Triple.Walked.{says, Stays, stay-none, stay-none-slice, walkOf, goes-none, goes-none-slice, ends-at, walked, walk-meets}
 use denote.Exit.{yes}
 use Rattle.certificate.specs.Views.{numberAt}
-use Rattle.layout.specs.declared.reader.EntryHead.{EntryHead}
-use Rattle.layout.proofs.ReaderWalks.{mach, Own, token}
-use Rattle.layout.proofs.ReadNumber.{OnReader}
-use Rattle.layout.proofs.ReaderSteps.{ReaderAt, Past, typed, makes, reads, walks-on}
-use Rattle.layout.proofs.reader.EntryHead as S
-use Rattle.layout.proofs.reader.EntryHead.Laws as S′
-use Rattle.layout.proofs.reader.reader_at.Symbol as reader-at
-use Rattle.layout.proofs.reader.reader_at.Met as reader-at-thm
-use Rattle.layout.proofs.reader.half.Symbol as half
-use Rattle.layout.proofs.reader.half.Met as half-thm
-use Rattle.layout.proofs.reader.byte.Symbol as byte
-use Rattle.layout.proofs.reader.byte.Met as byte-thm
-use Rattle.layout.proofs.reader.past.Symbol as past
-use Rattle.layout.proofs.reader.past.Met as past-thm
-use Rattle.layout.proofs.reader.entry_head.Key.{name as #entry-head}
-use Rattle.layout.proofs.reader.entry_head as entry-head
-use Rattle.layout.proofs.reader.entry_head.Statement as stated
-use Rattle.layout.proofs.reader.entry_head.Code as code
+use Rattle.reader.specs.declared.EntryHead.{EntryHead}
+use Rattle.reader.proofs.ReaderWalks.{mach, Own, token}
+use Rattle.reader.proofs.ReadNumber.{OnReader}
+use Rattle.reader.proofs.ReaderSteps.{ReaderAt, Past, typed, makes, reads, walks-on}
+use Rattle.reader.proofs.EntryHead as S
+use Rattle.reader.proofs.EntryHead.Laws as S′
+use Rattle.reader.proofs.reader_at.Symbol as reader-at
+use Rattle.reader.proofs.reader_at.Met as reader-at-thm
+use Rattle.reader.proofs.half.Symbol as half
+use Rattle.reader.proofs.half.Met as half-thm
+use Rattle.reader.proofs.byte.Symbol as byte
+use Rattle.reader.proofs.byte.Met as byte-thm
+use Rattle.reader.proofs.past.Symbol as past
+use Rattle.reader.proofs.past.Met as past-thm
+use Rattle.reader.proofs.entry_head.Key.{name as #entry-head}
+use Rattle.reader.proofs.entry_head as entry-head
+use Rattle.reader.proofs.entry_head.Statement as stated
+use Rattle.reader.proofs.entry_head.Code as code
 
 abbrev stayed : Stays (entry-head.ended .signature .params) (entry-head.ended .kept)
 stayed = (stay-none-slice (0 ∷ []) tt (plain (λ _. u8)) yes, (stay-none (λ _. u32) yes, tt))
@@ -117,7 +117,7 @@ entry-head-spec 𝓤 H 𝓜 𝓖 𝓡 =
     entered 𝓤 H (tripleOf 𝓤 H (𝓖 .A) entry-head.signature (entry-head.spec 𝓤 H (𝓖 .A) (𝓜 .mem) (𝓡 .run)))
     (tables 𝓤 H 𝓜 𝓡 code.env .C) (tables 𝓤 H 𝓜 𝓡 code.env .Λ) #entry-head code.function (code.unfolded 𝓤 H 𝓜 𝓡)
     (meets 𝓤 H (𝓖 .A) (givenOf 𝓤 H 𝓜 𝓖) (𝓜 .mem) (𝓡 .run) (tablesOf 𝓤 H 𝓜 (tables 𝓤 H 𝓜 𝓡 code.env))
-    (cited 𝓤 H (ReaderAt 𝓤 H (𝓖 .A)) 𝓜 𝓡 code.env reader-at.name reader-at.routine code.calls-layout·reader·reader-at (reader-at-thm.met 𝓤 H 𝓜 𝓖 𝓡))
-    (cited 𝓤 H (OnReader 𝓤 H (𝓖 .A) w16 2) 𝓜 𝓡 code.env half.name half.routine code.calls-layout·reader·half (half-thm.met 𝓤 H 𝓜 𝓖 𝓡))
-    (cited 𝓤 H (OnReader 𝓤 H (𝓖 .A) w8 1) 𝓜 𝓡 code.env byte.name byte.routine code.calls-layout·reader·byte (byte-thm.met 𝓤 H 𝓜 𝓖 𝓡))
-    (cited 𝓤 H (Past 𝓤 H (𝓖 .A)) 𝓜 𝓡 code.env past.name past.routine code.calls-layout·reader·past (past-thm.met 𝓤 H 𝓜 𝓖 𝓡)))
+    (cited 𝓤 H (ReaderAt 𝓤 H (𝓖 .A)) 𝓜 𝓡 code.env reader-at.name reader-at.routine code.calls-reader·reader-at (reader-at-thm.met 𝓤 H 𝓜 𝓖 𝓡))
+    (cited 𝓤 H (OnReader 𝓤 H (𝓖 .A) w16 2) 𝓜 𝓡 code.env half.name half.routine code.calls-reader·half (half-thm.met 𝓤 H 𝓜 𝓖 𝓡))
+    (cited 𝓤 H (OnReader 𝓤 H (𝓖 .A) w8 1) 𝓜 𝓡 code.env byte.name byte.routine code.calls-reader·byte (byte-thm.met 𝓤 H 𝓜 𝓖 𝓡))
+    (cited 𝓤 H (Past 𝓤 H (𝓖 .A)) 𝓜 𝓡 code.env past.name past.routine code.calls-reader·past (past-thm.met 𝓤 H 𝓜 𝓖 𝓡)))

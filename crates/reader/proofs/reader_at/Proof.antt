@@ -1,4 +1,4 @@
--- `layout::reader::reader_at` meets its contract: a walk of its code, by hand. The reader is made of the slice and the place passed, in the result's local.
+-- `reader::reader_at` meets its contract: a walk of its code, by hand. The reader is made of the slice and the place passed, in the result's local.
 -- Assumes nothing.
 use mathlib.Core.Path.{refl}
 use Prim.Native.Nat.{ℕ, _<_, _^_}
@@ -30,12 +30,12 @@ use denote.Triple.Spec.{Meets, tripleOf}
 use denote.Triple.Table.{entered}
 use denote.Triple.Walked.{says, Stays, stay-none, stay-none-slice, walkOf, goes-none, goes-none-slice, Walks, ends-at, walked, walk-meets}
 use denote.Exit.{yes}
-use Rattle.layout.proofs.ReaderWalks.{B, reader, mach, Own, token, made}
-use Rattle.layout.proofs.reader.Reader.Laws as T′
-use Rattle.layout.proofs.reader.reader_at.Key.{name as #reader-at}
-use Rattle.layout.proofs.reader.reader_at as reader-at
-use Rattle.layout.proofs.reader.reader_at.Statement as stated
-use Rattle.layout.proofs.reader.reader_at.Code as code
+use Rattle.reader.proofs.ReaderWalks.{B, reader, mach, Own, token, made}
+use Rattle.reader.proofs.Reader.Laws as T′
+use Rattle.reader.proofs.reader_at.Key.{name as #reader-at}
+use Rattle.reader.proofs.reader_at as reader-at
+use Rattle.reader.proofs.reader_at.Statement as stated
+use Rattle.reader.proofs.reader_at.Code as code
 
 abbrev stayed : Stays (reader-at.ended .signature .params) (reader-at.ended .kept)
 stayed = (stay-none-slice (0 ∷ []) tt (plain (λ _. u8)) yes, (stay-none (λ _. usize) yes, tt))

@@ -32,9 +32,9 @@ use denote.Struct.Rest.{own-shut}
 use denote.Triple.Statement.{Contract, Triple}
 use denote.Triple.Call.{calls-at}
 use denote.Triple.Walked.{says}
-use Rattle.layout.specs.declared.reader.Reader.{Reader}
-use Rattle.layout.proofs.reader.Reader as T
-use Rattle.layout.proofs.reader.Reader.Laws as T′
+use Rattle.reader.specs.declared.Reader.{Reader}
+use Rattle.reader.proofs.Reader as T
+use Rattle.reader.proofs.Reader.Laws as T′
 
 -- a reader's type, over the lifetimes of a signature of one
 abbrev pub B : Lfts 1 → RattleType

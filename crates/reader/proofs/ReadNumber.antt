@@ -37,10 +37,10 @@ use denote.Triple.Walked.{says, Stays, stay-none, walkOf, goes-none, Walks, ends
 use denote.Exit.{yes}
 use denote.Triple.Clauses.{Ended, Clauses, closing, lasts}
 use Rattle.certificate.specs.Views.{numberAt}
-use Rattle.layout.specs.declared.reader.Reader.{Reader}
-use Rattle.layout.proofs.reader.Reader as T
-use Rattle.layout.proofs.reader.Reader.Laws as T′
-use Rattle.layout.proofs.ReaderWalks.{B, mach, Own, token, asks, back, lends}
+use Rattle.reader.specs.declared.Reader.{Reader}
+use Rattle.reader.proofs.Reader as T
+use Rattle.reader.proofs.Reader.Laws as T′
+use Rattle.reader.proofs.ReaderWalks.{B, mach, Own, token, asks, back, lends}
 
 module _ (w : Width) where
   abbrev pub signature : Signature

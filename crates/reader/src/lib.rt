@@ -5,7 +5,7 @@ use certificate::bytes::u64_at;
 ghost use mathlib.Core.Path.{_≡_};
 ghost use Prim.Native.Nat.{_+_, _^_, _<_};
 ghost use Rattle.certificate.specs.Views.{numberAt};
-ghost use Rattle.layout.specs.Heads.{entryHeadAt, taskHeadAt};
+ghost use Rattle.reader.specs.Heads.{entryHeadAt, taskHeadAt};
 
 // The file, and a place in it.
 pub struct Reader<'a> {
@@ -66,7 +66,7 @@ pub(crate) fn past<'a>(r: Reader<'a>, n: usize) -> Reader<'a>
 }
 
 // The head of the entry at a place. Its parameters are plain, so that whoever calls it has no walk by hand, as of `task_head`.
-pub(crate) fn entry_head(file: &[u8], place: u32) -> EntryHead
+pub fn entry_head(file: &[u8], place: u32) -> EntryHead
     ensures { λ h. ⌜ h ≡ entryHeadAt (now (file .entry)) place ⌝ }
 {
     let r = reader_at(file, place as usize);
@@ -76,7 +76,7 @@ pub(crate) fn entry_head(file: &[u8], place: u32) -> EntryHead
 }
 
 // The head of the task: one reader walks on from each field to the next.
-pub(crate) fn task_head(file: &[u8]) -> TaskHead
+pub fn task_head(file: &[u8]) -> TaskHead
     ensures { λ h. ⌜ h ≡ taskHeadAt (now (file .entry)) ⌝ }
 {
     let mut r = reader_at(file, 4);

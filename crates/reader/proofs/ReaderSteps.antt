@@ -33,12 +33,12 @@ use denote.Triple.Spec.{tripleOf}
 use denote.Triple.Walked.{says}
 use denote.Triple.Clauses.{closing, lasts}
 use Rattle.certificate.specs.Views.{numberAt}
-use Rattle.layout.proofs.reader.Reader as T
-use Rattle.layout.proofs.reader.Reader.Laws as T′
-use Rattle.layout.proofs.reader.reader_at as reader-at
-use Rattle.layout.proofs.reader.past as past
-use Rattle.layout.proofs.ReaderWalks.{B, reader, mach, Own, token, others, asks, back, made, lends}
-use Rattle.layout.proofs.ReadNumber.{ended, clauses, OnReader}
+use Rattle.reader.proofs.Reader as T
+use Rattle.reader.proofs.Reader.Laws as T′
+use Rattle.reader.proofs.reader_at as reader-at
+use Rattle.reader.proofs.past as past
+use Rattle.reader.proofs.ReaderWalks.{B, reader, mach, Own, token, others, asks, back, made, lends}
+use Rattle.reader.proofs.ReadNumber.{ended, clauses, OnReader}
 
 -- a reader's relation tells its machine value
 told : (κ : Lft) → Tells (B (κ, tt)) (Is (B (κ, tt))) (λ r. T′.lowered r ∷ [])

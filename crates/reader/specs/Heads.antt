@@ -2,8 +2,8 @@
 -- Assumes nothing.
 use Prim.Native.Nat.{ℕ, _+_}
 use mathlib.Core.List.{List}
-use Rattle.layout.specs.declared.reader.EntryHead.{EntryHead}
-use Rattle.layout.specs.declared.reader.TaskHead.{TaskHead}
+use Rattle.reader.specs.declared.EntryHead.{EntryHead}
+use Rattle.reader.specs.declared.TaskHead.{TaskHead}
 use Rattle.certificate.specs.Views.{numberAt}
 
 -- the entry at place p: the length of its rest, and its kind

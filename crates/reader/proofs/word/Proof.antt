@@ -1,14 +1,14 @@
--- `layout::reader::word` meets its contract: `ReadNumber`'s walk, at eight bytes.
+-- `reader::word` meets its contract: `ReadNumber`'s walk, at eight bytes.
 -- Assumes nothing.
 use mir.Syntax.{w64}
 use contract.Running.{givenOf, tables, tablesOf}
 use denote.Triple.Table.{entered, cited}
-use Rattle.layout.proofs.ReadNumber.{OnSlice, OnReader, meets}
+use Rattle.reader.proofs.ReadNumber.{OnSlice, OnReader, meets}
 use Rattle.certificate.proofs.bytes.u64_at.Symbol as u64-at
 use Rattle.certificate.proofs.bytes.u64_at.Met as u64-at-thm
-use Rattle.layout.proofs.reader.word.Key.{name as #word}
-use Rattle.layout.proofs.reader.word.Statement as stated
-use Rattle.layout.proofs.reader.word.Code as code
+use Rattle.reader.proofs.word.Key.{name as #word}
+use Rattle.reader.proofs.word.Statement as stated
+use Rattle.reader.proofs.word.Code as code
 
 pub word-spec : {M : Type 1} → stated.statement M
 unfolding code.routine tablesOf

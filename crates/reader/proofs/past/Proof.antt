@@ -1,4 +1,4 @@
--- `layout::reader::past` meets its contract: a walk of its code, by hand. The reader is made anew of the slice that the one passed holds, and the place further on.
+-- `reader::past` meets its contract: a walk of its code, by hand. The reader is made anew of the slice that the one passed holds, and the place further on.
 -- The reader is Copy: one copy of what it owns is kept whole for the exit, and the other, with the new place's facts, is what the result owns.
 -- Assumes nothing.
 use mathlib.Core.Path.{refl}
@@ -33,14 +33,14 @@ use denote.Triple.Spec.{Meets, tripleOf}
 use denote.Triple.Table.{entered}
 use denote.Triple.Walked.{says, needs, Stays, stay-none, walkOf, goes-none, Walks, ends-at, walked, walk-meets}
 use denote.Exit.{yes}
-use Rattle.layout.specs.declared.reader.Reader.{Reader}
-use Rattle.layout.proofs.ReaderWalks.{B, reader, token}
-use Rattle.layout.proofs.reader.Reader as T
-use Rattle.layout.proofs.reader.Reader.Laws as T′
-use Rattle.layout.proofs.reader.past.Key.{name as #past}
-use Rattle.layout.proofs.reader.past as past
-use Rattle.layout.proofs.reader.past.Statement as stated
-use Rattle.layout.proofs.reader.past.Code as code
+use Rattle.reader.specs.declared.Reader.{Reader}
+use Rattle.reader.proofs.ReaderWalks.{B, reader, token}
+use Rattle.reader.proofs.Reader as T
+use Rattle.reader.proofs.Reader.Laws as T′
+use Rattle.reader.proofs.past.Key.{name as #past}
+use Rattle.reader.proofs.past as past
+use Rattle.reader.proofs.past.Statement as stated
+use Rattle.reader.proofs.past.Code as code
 
 abbrev stayed : Stays (past.ended .signature .params) (past.ended .kept)
 stayed = (stay-none B yes, (stay-none (λ _. usize) yes, tt))

@@ -1,14 +1,14 @@
--- `layout::reader::half` meets its contract: `ReadNumber`'s walk, at two bytes.
+-- `reader::half` meets its contract: `ReadNumber`'s walk, at two bytes.
 -- Assumes nothing.
 use mir.Syntax.{w16}
 use contract.Running.{givenOf, tables, tablesOf}
 use denote.Triple.Table.{entered, cited}
-use Rattle.layout.proofs.ReadNumber.{OnSlice, OnReader, meets}
+use Rattle.reader.proofs.ReadNumber.{OnSlice, OnReader, meets}
 use Rattle.certificate.proofs.bytes.u16_at.Symbol as u16-at
 use Rattle.certificate.proofs.bytes.u16_at.Met as u16-at-thm
-use Rattle.layout.proofs.reader.half.Key.{name as #half}
-use Rattle.layout.proofs.reader.half.Statement as stated
-use Rattle.layout.proofs.reader.half.Code as code
+use Rattle.reader.proofs.half.Key.{name as #half}
+use Rattle.reader.proofs.half.Statement as stated
+use Rattle.reader.proofs.half.Code as code
 
 pub half-spec : {M : Type 1} → stated.statement M
 unfolding code.routine tablesOf

@@ -1,14 +1,14 @@
--- `layout::reader::byte` meets its contract: `ReadNumber`'s walk, at one byte.
+-- `reader::byte` meets its contract: `ReadNumber`'s walk, at one byte.
 -- Assumes nothing.
 use mir.Syntax.{w8}
 use contract.Running.{givenOf, tables, tablesOf}
 use denote.Triple.Table.{entered, cited}
-use Rattle.layout.proofs.ReadNumber.{OnSlice, OnReader, meets}
+use Rattle.reader.proofs.ReadNumber.{OnSlice, OnReader, meets}
 use Rattle.certificate.proofs.bytes.byte_at.Symbol as byte-at
 use Rattle.certificate.proofs.bytes.byte_at.Met as byte-at-thm
-use Rattle.layout.proofs.reader.byte.Key.{name as #byte}
-use Rattle.layout.proofs.reader.byte.Statement as stated
-use Rattle.layout.proofs.reader.byte.Code as code
+use Rattle.reader.proofs.byte.Key.{name as #byte}
+use Rattle.reader.proofs.byte.Statement as stated
+use Rattle.reader.proofs.byte.Code as code
 
 pub byte-spec : {M : Type 1} → stated.statement M
 unfolding code.routine tablesOf

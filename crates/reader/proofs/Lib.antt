@@ -1,0 +1,3 @@
+pub mod ReaderWalks
+pub mod ReadNumber
+pub mod ReaderSteps
