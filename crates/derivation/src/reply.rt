@@ -4,7 +4,7 @@ use crate::step::well_formed;
 use certificate::Places;
 use certificate::known::fields;
 use inclusion::Verdict;
-use inclusion::decide::decide;
+use inclusion::decide;
 use rules::rule::Rule;
 ghost use mathlib.Core.Path.{_≡_};
 ghost use Prim.Native.Nat.{_<_};

@@ -22,7 +22,7 @@ use Rattle.certificate.proofs.ItemLaws.{Items}
 use Rattle.certificate.proofs.EntryLaws.{BasicItems}
 use Rattle.task.specs.Inner.{noAction}
 use Rattle.shapes.specs.Counter.{Leaf}
-use Rattle.inclusion.specs.Listed.{InOrder, InOrderAt}
+use Rattle.listed.specs.Listed.{InOrder, InOrderAt}
 use Rattle.shapes.specs.Flat.{numbersOf, flatLeaf, flatOf}
 use Rattle.shapes.specs.Trees.{nodeOf}
 use Rattle.shapes.proofs.FlatLaws.{four, Holding, LeafIs, leaf-is}

@@ -27,7 +27,7 @@ use Rattle.meaning.specs.Sets.{allBelow, meets, inBasic, inSet}
 use Rattle.meaning.specs.Shapes.{kindAt}
 use Rattle.shapes.specs.Counter.{Leaf, seen}
 use Rattle.clauses.specs.Clauses.{clauseAt}
-use Rattle.inclusion.specs.Listed.{statesAt, leafHolds, leafHoldsAt}
+use Rattle.listed.specs.Listed.{statesAt, leafHolds, leafHoldsAt}
 use Rattle.shapes.specs.Flat.{numbersOf}
 use Rattle.shapes.specs.Trees.{nodeOf}
 use Rattle.meaning.proofs.Below.{all-at, all-of}

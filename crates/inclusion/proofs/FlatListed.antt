@@ -20,7 +20,7 @@ use Rattle.meaning.specs.Writing.{AllFrom, FitsBasic}
 use Rattle.certificate.proofs.EntryLaws.{BasicItems}
 use Rattle.meaning.specs.Sets.{inBasic, inSet}
 use Rattle.shapes.specs.Counter.{Leaf, seen, AllIn, NoneIn, Refuted}
-use Rattle.inclusion.specs.Listed.{leafStates, leafStatesAt, leafHoldsAt, Shows}
+use Rattle.listed.specs.Listed.{leafStates, leafStatesAt, leafHoldsAt, Shows}
 use Rattle.shapes.specs.Flat.{numbersOf}
 use Rattle.shapes.specs.Trees.{nodeOf}
 use Rattle.shapes.proofs.Lists.{tests-agree}

@@ -14,7 +14,7 @@ use Rattle.certificate.specs.Known.{Known, decoded}
 use Rattle.shapes.specs.declared.shape.Gathered.{Gathered}
 use Rattle.shapes.specs.Counter.{Leaf, Refuted}
 use Rattle.shapes.specs.Gathered.{leftOf, rightOf, Gathers}
-use Rattle.inclusion.specs.Search.{Readable, Ready}
+use Rattle.listed.specs.Search.{Readable, Ready}
 use Rattle.clauses.specs.Propagation.{wordsAt, ruleOf, Usable, Tells}
 use Rattle.clauses.specs.Clauses.{OfLeaf, OfLeaves, Refutes}
 use Rattle.shapes.proofs.FlatLaws.{Holding}

@@ -1,12 +1,5 @@
 pub mod Reduced
-pub mod MarkLaws
-pub mod ActionLaws
 pub mod RuleTruth
-pub mod SearchLaws
-pub mod ListedLaws
-pub mod ShownLaws
-pub mod EntryActions
-pub mod WalkLaws
 pub mod FlatHolds
 pub mod FlatClauses
 pub mod FlatAsked

@@ -16,7 +16,7 @@ use Rattle.shapes.specs.Counter.{Leaf}
 use Rattle.shapes.specs.Flat.{numbersOf, flag}
 use Rattle.shapes.specs.declared.trees.Node.{Node}
 use Rattle.shapes.specs.Trees.{nodeOf}
-use Rattle.inclusion.specs.Listed.{InOrder, leafHolds}
+use Rattle.listed.specs.Listed.{InOrder, leafHolds}
 use Rattle.meaning.specs.Shapes.{kindAt, isBasic}
 use Rattle.shapes.proofs.FlatLaws.{kind-number, viewAt, LeafIs}
 use Rattle.inclusion.proofs.FlatHolds.{by-leaf, numbers-hold}

@@ -10,7 +10,7 @@ use Rattle.task.specs.declared.Action.{Action}
 use Rattle.task.specs.Task.{Task, actionAt, applies, after}
 use Rattle.task.proofs.Tests.{holds, is-true}
 use Rattle.meaning.specs.Sets.{someBelow, someAction, regressed}
-use Rattle.inclusion.specs.Marks.{marked, Marks}
+use Rattle.actions.specs.Marks.{marked, Marks}
 use Rattle.meaning.proofs.Below.{some-of}
 
 module _ (t : Task) (states chosen : ℕ → Bool) (s : ℕ) where

@@ -31,9 +31,9 @@ use Rattle.question.proofs.try_each_action.Kinds as try-each-action-kin
 use Rattle.question.proofs.+member+try_each_action.Lts-try_each_action as try-each-action-lts
 use Rattle.certificate.proofs.known.action.Reads as action-reads
 use Rattle.certificate.proofs.known.state_set.Reads as state-set-reads
-use Rattle.inclusion.proofs.actions.action_marks.Reads as action-marks-reads
-use Rattle.inclusion.proofs.listed.leaf_holds.Reads as leaf-holds-reads
-use Rattle.inclusion.proofs.marks.is_marked.Reads as is-marked-reads
+use Rattle.actions.proofs.action_marks.Reads as action-marks-reads
+use Rattle.listed.proofs.leaf_holds.Reads as leaf-holds-reads
+use Rattle.actions.proofs.marks.is_marked.Reads as is-marked-reads
 use Rattle.task.proofs.after.Reads as after-reads
 use Rattle.task.proofs.applies.Reads as applies-reads
 use Rattle.shapes.proofs.trees.node_of.Reads as node-of-reads

@@ -1,0 +1,4 @@
+pub mod MarkLaws
+pub mod ActionLaws
+pub mod EntryActions
+pub mod WalkLaws
