@@ -11,12 +11,12 @@ use borrow.Author.Tests.{eq-eqb, eqb-true}
 use Rattle.task.proofs.Tests.{not-of}
 use Rattle.task.proofs.Bits.{bit, bit-le, bit-and, bit-or, no-bits}
 use Rattle.meaning.specs.declared.Clause.{Clause}
-use Rattle.clauses.specs.declared.Assignment.{Assignment}
+use Rattle.propagation.specs.declared.Assignment.{Assignment}
 use Rattle.meaning.specs.Sets.{meets}
-use Rattle.clauses.specs.Propagation.{mask, holding, failing, value, Agrees, Alike, Going, Solved, Opposed, Assumed}
-use Rattle.clauses.proofs.OneFact.{off-in}
-use Rattle.clauses.proofs.ClauseLaws.{Has, met-by, fails-by}
-use Rattle.clauses.proofs.PassLaws.{going-more, going-under, alike}
+use Rattle.propagation.specs.Propagation.{mask, holding, failing, value, Agrees, Alike, Going, Solved, Opposed, Assumed}
+use Rattle.propagation.proofs.OneFact.{off-in}
+use Rattle.propagation.proofs.ClauseLaws.{Has, met-by, fails-by}
+use Rattle.propagation.proofs.PassLaws.{going-more, going-under, alike}
 
 -- a state that agrees with the later assignment agrees with the one before
 pub agrees-before : (S : ℕ → Type 0) (x r : Assignment) (s : ℕ) → Going S x r → Agrees s r → Agrees s x

@@ -15,10 +15,10 @@ use Rattle.task.proofs.Bits.{bit, bit-without}
 use Rattle.meaning.specs.declared.Clause.{Clause}
 use Rattle.meaning.specs.Layout.{onesIn, hornRule, twoCnfRule}
 use Rattle.task.specs.Inner.{has}
-use Rattle.clauses.specs.Clauses.{metBy, pulled, clauseAt, sameAs, onIn}
-use Rattle.clauses.specs.Propagation.{wordsAt, ruleOf}
-use Rattle.clauses.proofs.OneFact.{off-in, bit-only, bit-other, ones-less}
-use Rattle.clauses.proofs.ClauseLaws.{Has, anything, rest, rest-has, pulled-met, pulled-rest}
+use Rattle.propagation.specs.Clauses.{metBy, pulled, clauseAt, sameAs, onIn}
+use Rattle.propagation.specs.Propagation.{wordsAt, ruleOf}
+use Rattle.propagation.proofs.OneFact.{off-in, bit-only, bit-other, ones-less}
+use Rattle.propagation.proofs.ClauseLaws.{Has, anything, rest, rest-has, pulled-met, pulled-rest}
 
 -- ---- the shapes, in terms of literals
 

@@ -12,10 +12,10 @@ use Rattle.task.specs.declared.Action.{Action}
 use Rattle.task.specs.Task.{after}
 use Rattle.task.proofs.Bits.{bit, bit-le, bit-high, bit-after, add-wins, del-last, after-lt}
 use Rattle.meaning.specs.declared.Clause.{Clause}
-use Rattle.clauses.specs.declared.Assignment.{Assignment}
+use Rattle.propagation.specs.declared.Assignment.{Assignment}
 use Rattle.meaning.specs.Sets.{meets}
-use Rattle.clauses.specs.Propagation.{mask, holding, failing, value, Agrees, Apart, Meets, Wide, Settled, Fillable}
-use Rattle.clauses.proofs.ClauseLaws.{Has, by-met, met-by}
+use Rattle.propagation.specs.Propagation.{mask, holding, failing, value, Agrees, Apart, Meets, Wide, Settled, Fillable}
+use Rattle.propagation.proofs.ClauseLaws.{Has, by-met, met-by}
 use Rattle.clauses.proofs.ClauseShapes.{Shaped}
 
 -- a clause below 2 ^ 64 has no fact 64 or above

@@ -1,12 +1,5 @@
-pub mod OneFact
-pub mod ClauseLaws
-pub mod UnitLaws
-pub mod PassLaws
-pub mod RestLaws
-pub mod CodeLaws
 pub mod ClauseShapes
 pub mod AssumeLaws
 pub mod FillLaws
-pub mod LeafLaws
 pub mod StartLaws
 pub mod SeekLaws

@@ -13,18 +13,18 @@ use Rattle.task.specs.declared.Action.{Action}
 use Rattle.task.proofs.Tests.{not-of, is-true, never}
 use Rattle.task.proofs.Bits.{bit, bit-le, bit-none, bit-or}
 use Rattle.meaning.specs.declared.Clause.{Clause}
-use Rattle.clauses.specs.declared.Assignment.{Assignment}
+use Rattle.propagation.specs.declared.Assignment.{Assignment}
 use Rattle.meaning.specs.Sets.{meets}
-use Rattle.clauses.specs.Clauses.{OfLeaves}
-use Rattle.clauses.specs.Propagation.{value, failing, Apart, Settled, Tells, Going, Assumed, Decided, Fillable, Ready, Model, Witness, Candidate, Sought, Usable}
-use Rattle.clauses.proofs.OneFact.{bit-same, bit-only}
-use Rattle.clauses.proofs.ClauseLaws.{Has, met-by}
-use Rattle.clauses.proofs.CodeLaws.{count-words, pulled-by}
-use Rattle.clauses.proofs.PassLaws.{going-none, going-more, going-under}
+use Rattle.propagation.specs.Clauses.{OfLeaves}
+use Rattle.propagation.specs.Propagation.{value, failing, Apart, Settled, Tells, Going, Assumed, Decided, Fillable, Ready, Model, Witness, Candidate, Sought, Usable}
+use Rattle.propagation.proofs.OneFact.{bit-same, bit-only}
+use Rattle.propagation.proofs.ClauseLaws.{Has, met-by}
+use Rattle.propagation.proofs.CodeLaws.{count-words, pulled-by}
+use Rattle.propagation.proofs.PassLaws.{going-none, going-more, going-under}
 use Rattle.clauses.proofs.ClauseShapes.{Shaped, shaped-at, shaped-pulled}
 use Rattle.clauses.proofs.FillLaws.{on-agrees, full-fills, overlay, overlay-agrees, two-fills}
 use Rattle.clauses.proofs.AssumeLaws.{against, agrees-before}
-use Rattle.clauses.proofs.LeafLaws.{kindOf, placeOf, countOf, actionOf, of-leaf}
+use Rattle.propagation.proofs.LeafLaws.{kindOf, placeOf, countOf, actionOf, of-leaf}
 
 -- ---- the clauses of usable leaves have their shape
 

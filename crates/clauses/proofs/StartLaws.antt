@@ -14,11 +14,11 @@ use Rattle.task.specs.Facts.{allOn}
 use Rattle.task.proofs.Tests.{not-of}
 use Rattle.task.proofs.Bits.{bit, bit-le, bit-none, bit-high, bit-not, bit-and, same-bits, all-on-at, all-on-of}
 use Rattle.meaning.specs.declared.Clause.{Clause}
-use Rattle.clauses.specs.declared.Assignment.{Assignment}
+use Rattle.propagation.specs.declared.Assignment.{Assignment}
 use Rattle.meaning.specs.Sets.{meets}
-use Rattle.clauses.specs.Clauses.{OfLeaves, Refutes}
-use Rattle.clauses.specs.Propagation.{holding, value, Agrees, Meets, Fails, Tells, Solved, Opposed, Ready, Model, Worth, Witness, Sought, Usable}
-use Rattle.clauses.proofs.ClauseLaws.{Has, met-by, fails-by}
+use Rattle.propagation.specs.Clauses.{OfLeaves, Refutes}
+use Rattle.propagation.specs.Propagation.{holding, value, Agrees, Meets, Fails, Tells, Solved, Opposed, Ready, Model, Worth, Witness, Sought, Usable}
+use Rattle.propagation.proofs.ClauseLaws.{Has, met-by, fails-by}
 use Rattle.clauses.proofs.AssumeLaws.{against, agrees-before}
 use Rattle.clauses.proofs.SeekLaws.{tells-no, usable-shaped, candidate-fills, sought-not}
 use Rattle.clauses.proofs.FillLaws.{horn-fillable, two-fillable}

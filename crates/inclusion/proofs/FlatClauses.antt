@@ -21,12 +21,12 @@ use Rattle.certificate.proofs.ItemLaws.{Items}
 use Rattle.certificate.proofs.EntryLaws.{BasicItems}
 use Rattle.meaning.specs.Sets.{meets, inBasic}
 use Rattle.task.specs.Inner.{has}
-use Rattle.clauses.specs.Clauses.{sameAs, onIn, clauseAt, clauseCount}
-use Rattle.clauses.specs.Propagation.{value}
+use Rattle.propagation.specs.Clauses.{sameAs, onIn, clauseAt, clauseCount}
+use Rattle.propagation.specs.Propagation.{value}
 use Rattle.shapes.specs.Flat.{numbersOf}
 use Rattle.shapes.specs.Trees.{nodeOf}
-use Rattle.clauses.proofs.OneFact.{bit-same, bit-only}
-use Rattle.clauses.proofs.ClauseLaws.{Has, by-met, met-by, always}
+use Rattle.propagation.proofs.OneFact.{bit-same, bit-only}
+use Rattle.propagation.proofs.ClauseLaws.{Has, by-met, met-by, always}
 use Rattle.shapes.proofs.Lists.{every-index}
 use Rattle.inclusion.proofs.FlatHolds.{placeOf, countOf, clause-stands}
 

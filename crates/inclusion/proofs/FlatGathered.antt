@@ -21,7 +21,7 @@ use Rattle.meaning.specs.File.{File}
 use Rattle.shapes.specs.declared.shape.Gathered.{Gathered}
 use Rattle.meaning.specs.Shapes.{kindAt}
 use Rattle.shapes.specs.Counter.{Leaf, Refuted}
-use Rattle.clauses.specs.Clauses.{OfLeaf, OfLeaves, Refutes}
+use Rattle.propagation.specs.Clauses.{OfLeaf, OfLeaves, Refutes}
 use Rattle.listed.specs.Listed.{Shows}
 use Rattle.shapes.specs.Gathered.{leftOf, rightOf, kindsOf, Gathers}
 use Rattle.shapes.proofs.FlatLaws.{Holding, leaf-is}

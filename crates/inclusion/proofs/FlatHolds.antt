@@ -26,7 +26,7 @@ use Rattle.certificate.proofs.KnownLaws.{known-state-sets, known-state-set, kno
 use Rattle.meaning.specs.Sets.{allBelow, meets, inBasic, inSet}
 use Rattle.meaning.specs.Shapes.{kindAt}
 use Rattle.shapes.specs.Counter.{Leaf, seen}
-use Rattle.clauses.specs.Clauses.{clauseAt}
+use Rattle.propagation.specs.Clauses.{clauseAt}
 use Rattle.listed.specs.Listed.{statesAt, leafHolds, leafHoldsAt}
 use Rattle.shapes.specs.Flat.{numbersOf}
 use Rattle.shapes.specs.Trees.{nodeOf}

@@ -18,7 +18,7 @@ use Rattle.certificate.specs.declared.Places.{Places}
 use Rattle.certificate.specs.Known.{Known, decoded}
 use Rattle.meaning.specs.Sets.{meets}
 use Rattle.shapes.specs.Counter.{Leaf, AllIn, NoneIn, Refuted}
-use Rattle.clauses.specs.Clauses.{clauseAt, clauseCount, overOld, leafClause, leafCount, OfLeaf, OfLeaves, Refutes}
+use Rattle.propagation.specs.Clauses.{clauseAt, clauseCount, overOld, leafClause, leafCount, OfLeaf, OfLeaves, Refutes}
 use Rattle.shapes.proofs.Moved.{asked, all-index, none-index}
 use Rattle.shapes.proofs.FlatLaws.{Holding, each-leaf}
 use Rattle.inclusion.proofs.FlatClauses.{none, none-met}

@@ -14,7 +14,7 @@ use borrow.Author.Tests.{eq-eqb, ne-eqb}
 use Rattle.task.proofs.Tests.{is-true}
 use Rattle.certificate.specs.Views.{numberAt}
 use Rattle.meaning.specs.Sets.{allBelow, someBelow, meets}
-use Rattle.clauses.specs.Clauses.{clauseAt}
+use Rattle.propagation.specs.Clauses.{clauseAt}
 use Rattle.listed.specs.Listed.{leafHolds, InOrderAt}
 use Rattle.listed.specs.Search.{Readable}
 use Rattle.meaning.proofs.Below.{all-at, some-at, some-of}

@@ -14,7 +14,7 @@ use Rattle.certificate.specs.Views.{numberAt}
 use Rattle.meaning.specs.Writing.{Ascending}
 use Rattle.meaning.specs.Sets.{allBelow, meets}
 use Rattle.shapes.specs.Counter.{seen}
-use Rattle.clauses.specs.Clauses.{clauseAt}
+use Rattle.propagation.specs.Clauses.{clauseAt}
 
 -- `count` states of 8 bytes from place `at`
 unfoldable pub statesAt : List ℕ → ℕ → ℕ → List ℕ

@@ -14,7 +14,7 @@ ghost use lib.Dec.{T, eqb, ltb};
 ghost use Rattle.task.specs.Reach.{member};
 ghost use Rattle.certificate.specs.Views.{numberAt};
 ghost use Rattle.meaning.specs.Sets.{allBelow, someBelow, meets};
-ghost use Rattle.clauses.specs.Clauses.{clauseAt};
+ghost use Rattle.propagation.specs.Clauses.{clauseAt};
 ghost use Rattle.listed.specs.Listed.{statesAt, InOrder, leafHolds, InOrderAt, Shows};
 ghost use Rattle.listed.specs.Search.{RowsAfter, Held, holdsAt, showsIn, spared, Readable, Ready};
 

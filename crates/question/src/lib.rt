@@ -1,14 +1,14 @@
 // The question whether a state is in an entry's set.
+use actions::action_marks;
+use actions::marks::is_marked;
 use certificate::Outline;
 use certificate::Places;
 use certificate::StateEntry;
 use certificate::known::action;
 use certificate::known::state_set;
 use certificate::views::index_file;
-use actions::action_marks;
-use listed::leaf_holds;
-use actions::marks::is_marked;
 use layout::read_layout;
+use listed::leaf_holds;
 use meaning::Answer;
 use shapes::trees::node_of;
 use task::after;

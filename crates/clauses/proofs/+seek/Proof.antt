@@ -10,22 +10,22 @@ use borrow.Fn.Kinds.{In}
 use borrow.Fn.PlainCycle.{Measures, is, falls, and}
 use Rattle.task.proofs.Tests.{holds, and-left, and-right}
 use Rattle.meaning.specs.declared.Clause.{Clause}
-use Rattle.clauses.specs.Clauses.{clauseAt, clauseCount}
-use Rattle.clauses.specs.declared.Effect.{Effect}
-use Rattle.clauses.specs.Propagation.{LeafOf, LeftOf, pulledBy}
-use Rattle.clauses.proofs.CodeLaws.{count-low}
-use Rattle.clauses.proofs.LeafLaws.{to-leaf, of-leaf, before-left}
+use Rattle.propagation.specs.Clauses.{clauseAt, clauseCount}
+use Rattle.propagation.specs.declared.Effect.{Effect}
+use Rattle.propagation.specs.Propagation.{LeafOf, LeftOf, pulledBy}
+use Rattle.propagation.proofs.CodeLaws.{count-low}
+use Rattle.propagation.proofs.LeafLaws.{to-leaf, of-leaf, before-left}
 use Rattle.clauses.proofs.SeekLaws.{witness-calm, candidate-base, candidate-found, sought-yes, sought-no, sought-not, ready-next, Missing, missing-more, missing-met, missing-all}
 use Rattle.clauses.proofs.seek.Reads as seek′
 use Rattle.clauses.proofs.seek.Kinds as seek-kinds
 use Rattle.clauses.proofs.+seek.Lts-seek as seek-lts
-use Rattle.clauses.proofs.effect_of.Reads as effect-of-reads
+use Rattle.propagation.proofs.effect_of.Reads as effect-of-reads
 use Rattle.clauses.proofs.assume.Reads as assume-reads
-use Rattle.clauses.proofs.clause_at.Reads as clause-at-reads
-use Rattle.clauses.proofs.clause_count.Reads as clause-count-reads
+use Rattle.propagation.proofs.clause_at.Reads as clause-at-reads
+use Rattle.propagation.proofs.clause_count.Reads as clause-count-reads
 use Rattle.clauses.proofs.is_before.Reads as is-before-reads
 use Rattle.clauses.proofs.same.Reads as same-reads
-use Rattle.clauses.proofs.pulled.Reads as pulled-reads
+use Rattle.propagation.proofs.pulled.Reads as pulled-reads
 use Rattle.clauses.proofs.+seek.{statement}
 use Rattle.clauses.proofs.+seek.Tie.{close}
 

@@ -2,7 +2,7 @@
 -- Assumes nothing.
 use borrow.Author.Needs.{needs}
 use Prim.Native.Nat.{_≤_, _-_}
-use Rattle.clauses.proofs.CodeLaws.{before-at}
+use Rattle.propagation.proofs.CodeLaws.{before-at}
 use Rattle.clauses.proofs.is_before.Statement.{statement}
 use Rattle.clauses.proofs.is_before.Tie as tie
 

@@ -3,7 +3,7 @@
 use Rattle.clauses.proofs.StartLaws.{start-ready, tells-worth, tells-none}
 use mathlib.Core.Bool.{true≢false}
 use Rattle.task.proofs.Tests.{holds}
-use Rattle.clauses.specs.Clauses.{OfLeaf}
+use Rattle.propagation.specs.Clauses.{OfLeaf}
 use borrow.Author.Needs.{needs}
 use Rattle.clauses.proofs.refuted.Statement.{statement}
 use Rattle.clauses.proofs.refuted.Tie as tie

@@ -1,6 +1,6 @@
 -- `clauses::same` meets its contract.
 -- Assumes nothing.
-use Rattle.clauses.proofs.CodeLaws.{same-clause}
+use Rattle.propagation.proofs.CodeLaws.{same-clause}
 use Rattle.clauses.proofs.same.Statement.{statement}
 use Rattle.clauses.proofs.same.Tie as tie
 

@@ -4,7 +4,7 @@ use Prim.Native.Nat.{_≤_, _<_, _-_, _^_}
 use mathlib.Core.Bool.{true}
 use borrow.Author.Needs.{needs}
 use Rattle.clauses.proofs.SeekLaws.{Trying, trying-none, trying-more, trying-done, trying-none-left, usable-shaped}
-use Rattle.clauses.specs.Propagation.{LeftOf}
+use Rattle.propagation.specs.Propagation.{LeftOf}
 use Rattle.clauses.proofs.satisfiable.Statement.{statement}
 use Rattle.clauses.proofs.satisfiable.Tie as tie
 

@@ -1,7 +1,7 @@
 -- `clauses::worth` meets its contract.
 -- Assumes nothing.
 use Rattle.clauses.proofs.StartLaws.{worth-conflict, worth-two, worth-horn}
-use Rattle.clauses.specs.Propagation.{Usable}
+use Rattle.propagation.specs.Propagation.{Usable}
 use mathlib.Core.Path.{subst}
 use Rattle.clauses.proofs.worth.Statement.{statement}
 use Rattle.clauses.proofs.worth.Tie as tie

@@ -7,7 +7,7 @@ use mathlib.Core.List.{List}
 use borrow.Author.Needs.{needs}
 use borrow.Author.Tests.{not-true, not-false}
 use Rattle.meaning.specs.Sets.{allBelow, meets}
-use Rattle.clauses.specs.Clauses.{clauseAt}
+use Rattle.propagation.specs.Clauses.{clauseAt}
 use Rattle.listed.proofs.ListedLaws.{all-none, all-more, all-fails, all-done, clause-read}
 use Rattle.listed.proofs.meets_all.Statement.{statement}
 use Rattle.listed.proofs.meets_all.Tie as tie

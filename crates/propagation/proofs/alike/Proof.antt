@@ -1,0 +1,11 @@
+-- `propagation::alike` meets its contract.
+-- Assumes nothing.
+use Rattle.propagation.proofs.PassLaws.{alike-code}
+use Rattle.propagation.proofs.alike.Statement.{statement}
+use Rattle.propagation.proofs.alike.Tie as tie
+
+returns : tie.Need-returns
+returns c = alike-code _ _
+
+pub alike-spec : {M : Type 1} → statement M
+alike-spec = tie.close (tie.spec returns)

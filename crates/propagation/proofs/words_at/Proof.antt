@@ -1,0 +1,14 @@
+-- `propagation::words_at` meets its contract.
+-- Assumes nothing.
+use Rattle.propagation.specs.Propagation.{wordsAt}
+use borrow.Author.Needs.{needs}
+use Rattle.propagation.proofs.words_at.Statement.{statement}
+use Rattle.propagation.proofs.words_at.Tie as tie
+
+returns : tie.Need-returns
+unfolding wordsAt
+returns c = cc
+
+pub words-at-spec : {M : Type 1} → statement M
+words-at-spec =
+    tie.close (tie.spec (λ c. search needs) (λ c. search needs) (λ c κs. search needs) (λ c. search needs) (λ c κs. search needs) returns)

@@ -1,0 +1,253 @@
+-- What propagation over clauses promises. Only the code's inner promises speak of this.
+-- Assumes nothing.
+use mathlib.Core.Path.{_≡_}
+use Prim.Native.Nat.{ℕ, _+_, _*_, _≤_, _<_, _^_}
+use mathlib.Core.Bool.{Bool, true, false, not, _||_}
+use mathlib.Core.List.{List}
+use mathlib.Core.Logic.{_⊎_}
+use lib.ListN.{length, getD}
+use lib.Dec.{T, eqb}
+use lib.Bits.{bitAnd, bitOr}
+use Rattle.task.specs.declared.Action.{Action}
+use Rattle.task.specs.Facts.{without}
+use Rattle.task.proofs.Bits.{bit}
+use Rattle.meaning.specs.declared.Clause.{Clause}
+use Rattle.certificate.specs.Views.{numberAt}
+use Rattle.meaning.specs.Layout.{hornRule, twoCnfRule}
+use Rattle.propagation.specs.declared.Assignment.{Assignment}
+use Rattle.propagation.specs.declared.Effect.{Effect}
+use Rattle.propagation.specs.declared.Case.{Case}
+use Rattle.meaning.specs.Sets.{meets}
+use Rattle.propagation.specs.Clauses.{clauseAt, OfLeaf, OfLeaves}
+use Rattle.task.specs.Inner.{noAction}
+
+-- ---- literals: a side, true for the positive one, and a fact
+
+-- the facts of a side; those whose literal is known to hold, and known to fail; and the value with which a literal holds
+abbrev pub mask : Bool → Clause → ℕ
+mask true c = c .positive
+mask false c = c .negative
+
+abbrev pub holding : Bool → Assignment → ℕ
+holding true x = x .on
+holding false x = x .off
+
+abbrev pub failing : Bool → Assignment → ℕ
+failing b x = holding (not b) x
+
+abbrev pub value : Bool → ℕ
+value true = 1
+value false = 0
+
+-- the action that a leaf's clauses are pulled through
+unfoldable pub acting : Action → Bool → Action
+acting a true = a
+acting a false = noAction
+
+-- what an action does to clauses, worked out once; and a clause pulled through it
+unfoldable pub effectOf : Action → Effect
+effectOf a = record { add = a .add; gone = without (a .del) (a .add); changed = bitOr (a .add) (a .del) }
+
+unfoldable pub pulledBy : Effect → Clause → Clause
+pulledBy k c =
+    elim (not (eqb (bitAnd (c .positive) (k .add)) 0) || not (eqb (bitAnd (c .negative) (k .gone)) 0)) [
+      | true ↦ record { positive = 1; negative = 1 }
+      | false ↦ record { positive = without (c .positive) (k .changed); negative = without (c .negative) (k .changed) }
+    ]
+
+-- clause i of those that stand in the file from a place
+unfoldable pub wordsAt : List ℕ → ℕ → ℕ → Clause
+wordsAt bytes at i = record { positive = numberAt 8 bytes (at + 16 * i); negative = numberAt 8 bytes (at + 16 * i + 8) }
+
+-- a test tells whether there is an X
+pub record Tells (r : Bool) (X : Type 0) : Type 0 where
+  pub finds : T r → X
+  pub sees : X → T r
+
+-- ---- states and assignments
+
+-- a state that an assignment leaves open. None agrees with a conflict
+pub record Agrees (s : ℕ) (x : Assignment) : Type 0 where
+  pub calm : x .conflict ≡ false
+  pub fits : s < 2 ^ 64
+  pub says : (b : Bool) (f : ℕ) → bit f (holding b x) ≡ 1 → bit f s ≡ value b
+
+-- no fact is both on and off
+abbrev pub Apart : Assignment → Type 0
+Apart x = (f : ℕ) → bit f (x .on) + bit f (x .off) ≤ 1
+
+-- a clause and no other; the clauses of the first k families
+abbrev pub Only : Clause → Clause → Type 0
+Only c d = d ≡ c
+
+abbrev pub Below : (ℕ → Clause → Type 0) → ℕ → Clause → Type 0
+Below P k c = (i : ℕ) × (i < k) × P i c
+
+-- clause i of those in the file from a place, and clause i of a leaf, each pulled through an action
+abbrev pub ofWords : List ℕ → ℕ → Effect → ℕ → Clause → Type 0
+ofWords bytes at k i = Only (pulledBy k (wordsAt bytes at i))
+
+abbrev pub ofKind : List ℕ → ℕ → ℕ → ℕ → ℕ → Effect → ℕ → Clause → Type 0
+ofKind bytes init goal kind at k i = Only (pulledBy k (clauseAt bytes init goal kind at i))
+
+-- the clauses of leaf j, and of the left leaves
+abbrev pub LeafOf : List ℕ → List ℕ → Case → ℕ → Clause → Type 0
+LeafOf bytes leaves k = OfLeaf bytes (k .init) (k .goal) (k .action) leaves
+
+abbrev pub LeftOf : List ℕ → List ℕ → Case → Clause → Type 0
+LeftOf bytes leaves k = OfLeaves bytes (k .init) (k .goal) (k .action) leaves (k .m)
+
+-- a state meets every clause of P; a state fails some clause of P
+abbrev pub Meets : (Clause → Type 0) → ℕ → Type 0
+Meets P s = (c : Clause) → P c → T (meets s c)
+
+abbrev pub Fails : (Clause → Type 0) → ℕ → Type 0
+Fails P s = (c : Clause) × P c × T (not (meets s c))
+
+-- ---- settled clauses
+
+-- a literal of the clause is known to hold
+pub record Held (x : Assignment) (c : Clause) : Type 0 where
+  pub side : Bool
+  pub fact : ℕ
+  pub has : bit fact (mask side c) ≡ 1
+  pub holds : bit fact (holding side x) ≡ 1
+
+-- two literals of the clause are not known to fail
+pub record Wide (x : Assignment) (c : Clause) : Type 0 where
+  pub fits : (b : Bool) → mask b c < 2 ^ 64
+  pub side₁ : Bool
+  pub fact₁ : ℕ
+  pub side₂ : Bool
+  pub fact₂ : ℕ
+  pub differ : side₁ ≡ side₂ → fact₁ ≡ fact₂ → ⊥
+  pub has₁ : bit fact₁ (mask side₁ c) ≡ 1
+  pub has₂ : bit fact₂ (mask side₂ c) ≡ 1
+  pub open₁ : bit fact₁ (failing side₁ x) ≡ 0
+  pub open₂ : bit fact₂ (failing side₂ x) ≡ 0
+
+abbrev pub Settled : (Clause → Type 0) → Assignment → Type 0
+Settled P x = (c : Clause) → P c → Held x c ⊎ Wide x c
+
+-- ---- what a function makes of an assignment
+
+-- states in S that agree with x agree with r, and r says no less than x
+pub record Going (S : ℕ → Type 0) (x r : Assignment) : Type 0 where
+  pub sound : (s : ℕ) → S s → Agrees s x → Agrees s r
+  pub grows : (b : Bool) (f : ℕ) → bit f (holding b x) ≤ bit f (holding b r)
+  pub calm : r .conflict ≡ false → x .conflict ≡ false
+  pub apart : r .conflict ≡ false → Apart x → Apart r
+
+-- the two say the same
+abbrev pub Alike : Assignment → Assignment → Type 0
+Alike x r = (b : Bool) → holding b x ≡ holding b r
+
+-- x says no less than b
+abbrev pub Grown : Assignment → Assignment → Type 0
+Grown b x = (s : Bool) (f : ℕ) → bit f (holding s b) ≤ bit f (holding s x)
+
+-- no literal of the clause fails in x that did not fail in b
+abbrev pub Untouched : Assignment → Assignment → Clause → Type 0
+Untouched b x c = (s : Bool) (f : ℕ) → bit f (mask s c) ≡ 1 → bit f (failing s x) ≡ 1 → bit f (failing s b) ≡ 1
+
+-- what looks at x may rest on, unless each clause is looked at: b has P settled, and x has grown from it
+abbrev pub Based : (Clause → Type 0) → Bool → Assignment → Assignment → Type 0
+Based P full b x = full ≡ false → Settled P b × Grown b x
+
+-- one look at each clause of P: where nothing changed, each is settled
+pub record Passed (P : Clause → Type 0) (x r : Assignment) : Type 0 where
+  pub goes : Going (Meets P) x r
+  pub settled : Alike x r → r .conflict ≡ false → Settled P x
+
+-- looks until nothing changes, or up to a conflict
+pub record Solved (P : Clause → Type 0) (x r : Assignment) : Type 0 where
+  pub goes : Going (Meets P) x r
+  pub settled : r .conflict ≡ false → Settled P r
+
+-- the clause c is taken to fail
+pub record Opposed (c : Clause) (x r : Assignment) : Type 0 where
+  pub goes : Going (λ s. T (not (meets s c))) x r
+  pub told : (b : Bool) (f : ℕ) → bit f (mask b c) ≡ 1 → bit f (failing b r) ≡ 1
+
+-- the clause c is taken to fail, and P settled again
+pub record Assumed (P : Clause → Type 0) (c : Clause) (x r : Assignment) : Type 0 where
+  pub goes : Going (λ s. Meets P s × T (not (meets s c))) x r
+  pub told : (b : Bool) (f : ℕ) → bit f (mask b c) ≡ 1 → bit f (failing b r) ≡ 1
+  pub settled : r .conflict ≡ false → Settled P x → Settled P r
+
+-- a calm assignment that has P settled leaves a state open that meets P. So it is where P is Horn, or two-literal with a model
+abbrev pub Fillable : (Clause → Type 0) → Type 0
+Fillable P = (r : Assignment) → r .on < 2 ^ 64 → r .conflict ≡ false → Apart r → Settled P r → (s : ℕ) × Agrees s r × Meets P s
+
+-- fact i is known, and P still settled; a conflict where no state that agrees with x meets P
+pub record Decided (P : Clause → Type 0) (i : ℕ) (x r : Assignment) : Type 0 where
+  pub goes : Going (λ s. ⊥) x r
+  pub known : 1 ≤ bit i (r .on) + bit i (r .off)
+  pub settled : r .conflict ≡ false → Settled P x → Settled P r
+  pub none : r .conflict ≡ true → (s : ℕ) → Agrees s x → Meets P s → ⊥
+
+-- ---- the search
+
+-- where an assignment is calm, it has P settled
+pub record Ready (P : Clause → Type 0) (x : Assignment) : Type 0 where
+  pub apart : x .conflict ≡ false → Apart x
+  pub settled : x .conflict ≡ false → Settled P x
+
+-- a state that agrees with x, meets P and fails a clause of each of the right leaves from j to 1
+pub record Witness (P : Clause → Type 0) (Q : ℕ → Clause → Type 0) (j : ℕ) (x : Assignment) : Type 0 where
+  pub state : ℕ
+  pub agrees : Agrees state x
+  pub meets-left : Meets P state
+  pub fails : (k : ℕ) → j ≤ k → k < 2 → Fails (Q k) state
+
+-- an assignment grown from x that has P settled and fails a clause of each of the right leaves from j to 1
+pub record Candidate (P : Clause → Type 0) (Q : ℕ → Clause → Type 0) (j : ℕ) (x : Assignment) : Type 0 where
+  pub grown : Assignment
+  pub goes : Going (λ s. ⊥) x grown
+  pub fits : grown .on < 2 ^ 64
+  pub calm : grown .conflict ≡ false
+  pub apart : Apart grown
+  pub settled : Settled P grown
+  pub fails : (k : ℕ) → j ≤ k → k < 2 → (c : Clause) × Q k c × ((b : Bool) (f : ℕ) → bit f (mask b c) ≡ 1 → bit f (failing b grown) ≡ 1)
+
+-- a test that finds a candidate, and one wherever there is a witness
+pub record Sought (r : Bool) (P : Clause → Type 0) (Q : ℕ → Clause → Type 0) (j : ℕ) (x : Assignment) : Type 0 where
+  pub finds : T r → Candidate P Q j x
+  pub sees : Witness P Q j x → T r
+
+-- a state that agrees with x and meets P
+abbrev pub Model : (Clause → Type 0) → Assignment → Type 0
+Model P x = (s : ℕ) × Agrees s x × Meets P s
+
+-- a test that fails only where there is no such state, and holds only where P can be filled
+pub record Worth (P : Clause → Type 0) (x : Assignment) (r : Bool) : Type 0 where
+  pub fills : T r → Fillable P
+  pub sees : Model P x → T r
+
+-- ---- what callers owe
+
+-- the rule of two-literal or of Horn clauses
+abbrev pub ruleOf : Bool → Clause → Bool
+ruleOf true c = twoCnfRule (c .positive) (c .negative)
+ruleOf false c = hornRule (c .positive) (c .negative)
+
+-- leaf j is there, and the clauses that it names stand within the file
+pub record RoomAt (bytes leaves : List ℕ) (j : ℕ) : Type 0 where
+  pub long : 4 * j + 4 ≤ length leaves
+  pub inside : 3 ≤ getD leaves (4 * j) 0 → getD leaves (4 * j + 1) 0 + 16 * getD leaves (4 * j + 2) 0 ≤ length bytes
+
+-- so of each of m leaves
+pub record Roomy (bytes leaves : List ℕ) (m : ℕ) : Type 0 where
+  pub long : 4 * m ≤ length leaves
+  pub inside : (j : ℕ) → j < m → 3 ≤ getD leaves (4 * j) 0 → getD leaves (4 * j + 1) 0 + 16 * getD leaves (4 * j + 2) 0 ≤ length bytes
+
+-- one of m leaves has these numbers, and is asked about the state before the action
+abbrev pub Before : List ℕ → ℕ → ℕ → ℕ → ℕ → Type 0
+Before leaves m kind at count =
+    (j : ℕ) × (j < m) × (getD leaves (4 * j) 0 ≡ kind) × (getD leaves (4 * j + 1) 0 ≡ at) × (getD leaves (4 * j + 2) 0 ≡ count)
+    × (eqb (getD leaves (4 * j + 3) 0) 1 ≡ false)
+
+-- m leaves whose clauses in the file keep to the rule
+pub record Usable (bytes leaves : List ℕ) (m : ℕ) (two : Bool) : Type 0 where
+  pub room : Roomy bytes leaves m
+  pub shape : (j i : ℕ) → j < m → 3 ≤ getD leaves (4 * j) 0 → i < getD leaves (4 * j + 2) 0 → T (ruleOf two (wordsAt bytes (getD leaves (4 * j + 1) 0) i))
