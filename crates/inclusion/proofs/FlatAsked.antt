@@ -19,12 +19,12 @@ use Rattle.certificate.specs.Known.{Known, decoded, statePlace}
 use Rattle.meaning.specs.Writing.{FitsTask}
 use Rattle.certificate.proofs.KnownLaws.{known-read}
 use Rattle.meaning.specs.Sets.{meets, inSet, someBelow}
-use Rattle.shapes.specs.Counter.{Leaf, seen}
+use Rattle.trees.specs.Counter.{Leaf, seen}
 use Rattle.propagation.specs.Clauses.{overOld, leafClause, leafCount, OfLeaf}
 use Rattle.meaning.proofs.Below.{some-at, some-of}
 use Rattle.shapes.proofs.Moved.{asked}
 use Rattle.propagation.proofs.ClauseLaws.{pulled-meets}
-use Rattle.shapes.proofs.FlatLaws.{LeafIs}
+use Rattle.trees.proofs.FlatLaws.{LeafIs}
 use Rattle.inclusion.proofs.FlatHolds.{by-leaf}
 use Rattle.inclusion.proofs.FlatClauses.{MeetsEach, met-basic}
 

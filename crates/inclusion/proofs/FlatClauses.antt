@@ -23,11 +23,11 @@ use Rattle.meaning.specs.Sets.{meets, inBasic}
 use Rattle.task.specs.Inner.{has}
 use Rattle.propagation.specs.Clauses.{sameAs, onIn, clauseAt, clauseCount}
 use Rattle.propagation.specs.Propagation.{value}
-use Rattle.shapes.specs.Flat.{numbersOf}
-use Rattle.shapes.specs.Trees.{nodeOf}
+use Rattle.trees.specs.Flat.{numbersOf}
+use Rattle.trees.specs.Trees.{nodeOf}
 use Rattle.propagation.proofs.OneFact.{bit-same, bit-only}
 use Rattle.propagation.proofs.ClauseLaws.{Has, by-met, met-by, always}
-use Rattle.shapes.proofs.Lists.{every-index}
+use Rattle.trees.proofs.Lists.{every-index}
 use Rattle.inclusion.proofs.FlatHolds.{placeOf, countOf, clause-stands}
 
 -- ---- clauses of one fact

@@ -21,11 +21,11 @@ use Rattle.meaning.proofs.Order as order
 use Rattle.certificate.proofs.ItemLaws.{Items}
 use Rattle.certificate.proofs.EntryLaws.{BasicItems}
 use Rattle.task.specs.Inner.{noAction}
-use Rattle.shapes.specs.Counter.{Leaf}
+use Rattle.trees.specs.Counter.{Leaf}
 use Rattle.listed.specs.Listed.{InOrder, InOrderAt}
-use Rattle.shapes.specs.Flat.{numbersOf, flatLeaf, flatOf}
-use Rattle.shapes.specs.Trees.{nodeOf}
-use Rattle.shapes.proofs.FlatLaws.{four, Holding, LeafIs, leaf-is}
+use Rattle.trees.specs.Flat.{numbersOf, flatLeaf, flatOf}
+use Rattle.trees.specs.Trees.{nodeOf}
+use Rattle.trees.proofs.FlatLaws.{four, Holding, LeafIs, leaf-is}
 use Rattle.inclusion.proofs.FlatHolds.{placeOf, countOf, states-stand, by-leaf}
 use Rattle.inclusion.proofs.FlatAsked.{known-task}
 use Rattle.inclusion.proofs.FlatListed.{noLeaf}

@@ -20,11 +20,11 @@ use Rattle.certificate.specs.Known.{Known, decoded}
 use Rattle.meaning.specs.File.{File}
 use Rattle.shapes.specs.declared.shape.Gathered.{Gathered}
 use Rattle.meaning.specs.Shapes.{kindAt}
-use Rattle.shapes.specs.Counter.{Leaf, Refuted}
+use Rattle.trees.specs.Counter.{Leaf, Refuted}
 use Rattle.propagation.specs.Clauses.{OfLeaf, OfLeaves, Refutes}
 use Rattle.listed.specs.Listed.{Shows}
 use Rattle.shapes.specs.Gathered.{leftOf, rightOf, kindsOf, Gathers}
-use Rattle.shapes.proofs.FlatLaws.{Holding, leaf-is}
+use Rattle.trees.proofs.FlatLaws.{Holding, leaf-is}
 use Rattle.inclusion.proofs.FlatListed.{noLeaf, shows-refuted}
 use Rattle.inclusion.proofs.FlatRefutes.{Unlisted, refutes-refuted}
 use Rattle.inclusion.proofs.FlatFits.{ClausesFit, ruleFor, leaf-fits, leaf-inside}

@@ -25,16 +25,16 @@ use Rattle.certificate.proofs.EntryLaws.{BasicItems, StateItems}
 use Rattle.certificate.proofs.KnownLaws.{known-state-sets, known-state-set, known-init, known-goal, known-ordered, known-read}
 use Rattle.meaning.specs.Sets.{allBelow, meets, inBasic, inSet}
 use Rattle.meaning.specs.Shapes.{kindAt}
-use Rattle.shapes.specs.Counter.{Leaf, seen}
+use Rattle.trees.specs.Counter.{Leaf, seen}
 use Rattle.propagation.specs.Clauses.{clauseAt}
 use Rattle.listed.specs.Listed.{statesAt, leafHolds, leafHoldsAt}
-use Rattle.shapes.specs.Flat.{numbersOf}
-use Rattle.shapes.specs.Trees.{nodeOf}
+use Rattle.trees.specs.Flat.{numbersOf}
+use Rattle.trees.specs.Trees.{nodeOf}
 use Rattle.meaning.proofs.Below.{all-at, all-of}
-use Rattle.shapes.proofs.Lists.{every-index}
-use Rattle.shapes.proofs.Leaves.{in-basic, basic-of}
+use Rattle.trees.proofs.Lists.{every-index}
+use Rattle.trees.proofs.LeafLaws.{in-basic, basic-of}
 use Rattle.shapes.proofs.Moved.{asked}
-use Rattle.shapes.proofs.FlatLaws.{numberOf, LeafIs}
+use Rattle.trees.proofs.FlatLaws.{numberOf, LeafIs}
 
 agree : (p q : Bool) → T p ↔ T q → p ≡ q
 agree true true h = refl

@@ -19,13 +19,13 @@ use Rattle.certificate.specs.Known.{Known, decoded, statePlace}
 use Rattle.meaning.specs.Writing.{AllFrom, FitsBasic}
 use Rattle.certificate.proofs.EntryLaws.{BasicItems}
 use Rattle.meaning.specs.Sets.{inBasic, inSet}
-use Rattle.shapes.specs.Counter.{Leaf, seen, AllIn, NoneIn, Refuted}
+use Rattle.trees.specs.Counter.{Leaf, seen, AllIn, NoneIn, Refuted}
 use Rattle.listed.specs.Listed.{leafStates, leafStatesAt, leafHoldsAt, Shows}
-use Rattle.shapes.specs.Flat.{numbersOf}
-use Rattle.shapes.specs.Trees.{nodeOf}
-use Rattle.shapes.proofs.Lists.{tests-agree}
+use Rattle.trees.specs.Flat.{numbersOf}
+use Rattle.trees.specs.Trees.{nodeOf}
+use Rattle.trees.proofs.Lists.{tests-agree}
 use Rattle.shapes.proofs.Moved.{asked, all-index, none-index}
-use Rattle.shapes.proofs.FlatLaws.{Holding, LeafIs, leaf-is, each-leaf}
+use Rattle.trees.proofs.FlatLaws.{Holding, LeafIs, leaf-is, each-leaf}
 use Rattle.inclusion.proofs.FlatHolds.{placeOf, countOf, states-stand, by-leaf, leaf-holds}
 use Rattle.inclusion.proofs.FlatAsked.{known-task}
 

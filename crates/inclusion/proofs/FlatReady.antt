@@ -12,12 +12,12 @@ use mathlib.Core.List.{List}
 use Rattle.certificate.specs.declared.Places.{Places}
 use Rattle.certificate.specs.Known.{Known, decoded}
 use Rattle.shapes.specs.declared.shape.Gathered.{Gathered}
-use Rattle.shapes.specs.Counter.{Leaf, Refuted}
+use Rattle.trees.specs.Counter.{Leaf, Refuted}
 use Rattle.shapes.specs.Gathered.{leftOf, rightOf, Gathers}
 use Rattle.listed.specs.Search.{Readable, Ready}
 use Rattle.propagation.specs.Propagation.{wordsAt, ruleOf, Usable, Tells}
 use Rattle.propagation.specs.Clauses.{OfLeaf, OfLeaves, Refutes}
-use Rattle.shapes.proofs.FlatLaws.{Holding}
+use Rattle.trees.proofs.FlatLaws.{Holding}
 use Rattle.inclusion.proofs.FlatFits.{holding-room, leaf-ordered}
 use Rattle.inclusion.proofs.FlatGathered.{ruleBy, holding-left, holding-right, left-rule, left-inside, clauses-refuted}
 

@@ -17,10 +17,10 @@ use Rattle.meaning.specs.declared.Clause.{Clause}
 use Rattle.certificate.specs.declared.Places.{Places}
 use Rattle.certificate.specs.Known.{Known, decoded}
 use Rattle.meaning.specs.Sets.{meets}
-use Rattle.shapes.specs.Counter.{Leaf, AllIn, NoneIn, Refuted}
+use Rattle.trees.specs.Counter.{Leaf, AllIn, NoneIn, Refuted}
 use Rattle.propagation.specs.Clauses.{clauseAt, clauseCount, overOld, leafClause, leafCount, OfLeaf, OfLeaves, Refutes}
 use Rattle.shapes.proofs.Moved.{asked, all-index, none-index}
-use Rattle.shapes.proofs.FlatLaws.{Holding, each-leaf}
+use Rattle.trees.proofs.FlatLaws.{Holding, each-leaf}
 use Rattle.inclusion.proofs.FlatClauses.{none, none-met}
 use Rattle.inclusion.proofs.FlatAsked.{within-64, seen-low, asked-meets, asked-fails}
 use Rattle.inclusion.proofs.FlatListed.{noLeaf}

@@ -19,10 +19,10 @@ use Rattle.meaning.proofs.Order.{Ordered}
 use Rattle.meaning.specs.Sets.{inActions, inSet, statesWithin}
 use Rattle.meaning.specs.Shapes.{keep, Sides, kindAt, child, leaves}
 use Rattle.task.specs.Inner.{noAction}
-use Rattle.shapes.specs.Counter.{ActionsOf, seen, Counter, leftLeaves, rightLeaves}
+use Rattle.trees.specs.Counter.{ActionsOf, seen, Counter, leftLeaves, rightLeaves}
 use Rattle.meaning.proofs.Sets.{and-iff, within, at-progression, at-regression}
-use Rattle.shapes.proofs.Lists.{any, every-one, any-one, not-any, every-split, kept-passes, tests-agree}
-use Rattle.shapes.proofs.Leaves.{in-intersections, in-unions}
+use Rattle.trees.proofs.Lists.{any, every-one, any-one, not-any, every-split, kept-passes, tests-agree}
+use Rattle.trees.proofs.LeafLaws.{in-intersections, in-unions}
 use Rattle.shapes.proofs.Moved.{as-written}
 
 -- ---- the action that does nothing

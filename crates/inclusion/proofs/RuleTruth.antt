@@ -13,8 +13,8 @@ use Rattle.meaning.specs.File.{File}
 use Rattle.meaning.proofs.Order.{Ordered}
 use Rattle.meaning.specs.Sets.{statesWithin}
 use Rattle.meaning.specs.Shapes.{keep, kindAt, leaves, shapeWith, shape₂, shape₃}
-use Rattle.shapes.specs.Counter.{Leaf, Counter}
-use Rattle.shapes.specs.Flat.{notEmpty}
+use Rattle.trees.specs.Counter.{Leaf, Counter}
+use Rattle.trees.specs.Flat.{notEmpty}
 use Rattle.shapes.specs.Gathered.{bracketLeaf, bracketSides, shapeOf, sidesOf, throughOf, actionsOfRule, leftOf, rightOf, Acts}
 use Rattle.inclusion.proofs.Reduced.{truth-1, truth-2, truth-3, truth-4}
 use Rattle.shapes.proofs.Filled.{drop-empty}

@@ -13,7 +13,7 @@ use Rattle.task.specs.declared.Action.{Action}
 use Rattle.task.specs.Task.{actionAt}
 use Rattle.meaning.specs.File.{File}
 use Rattle.meaning.specs.Sets.{inActions}
-use Rattle.shapes.specs.Counter.{Leaf, Refuted, SomeRefuted}
+use Rattle.trees.specs.Counter.{Leaf, Refuted, SomeRefuted}
 
 -- none of the actions below i that are in set x makes the statement untrue
 pub record NoneYet (f : File) (x : ℕ) (left right : List Leaf) (i : ℕ) : Type 0 where

@@ -22,11 +22,11 @@ use Rattle.inclusion.specs.declared.Verdict.the-variants.{Holds, Untrue,
 use Rattle.meaning.specs.Sets.{statesWithin, actionsWithin}
 use Rattle.meaning.specs.Shapes.{kindAt, leaves, shape₁, shapeWith, shape₂, shape₃, shape₄}
 use Rattle.task.specs.Inner.{noAction}
-use Rattle.shapes.specs.Counter.{Leaf, Counter, ActionsOf, Refuted, SomeRefuted}
+use Rattle.trees.specs.Counter.{Leaf, Counter, ActionsOf, Refuted, SomeRefuted}
 use Rattle.shapes.specs.Gathered.{shapeOf, bracketLeaf, actionsOfRule, leftOf, rightOf, Acts}
 use Rattle.meaning.specs.Statements.{statements}
 use Rattle.inclusion.specs.Verdict.{verdictBut, verdictBy, verdictOr, verdictOf}
-use Rattle.shapes.proofs.Lists.{kept-passes}
+use Rattle.trees.proofs.Lists.{kept-passes}
 use Rattle.inclusion.proofs.RuleTruth.{rule-truth, the-bracket}
 
 -- ---- a counterexample by its action

@@ -15,7 +15,7 @@ ghost use Prim.Native.Nat.{_≤_, _<_, _^_};
 ghost use lib.Dec.{T};
 ghost use Rattle.task.specs.declared.Action.{Action};
 ghost use Rattle.certificate.specs.Known.{Known, decoded};
-ghost use Rattle.shapes.specs.Counter.{Refuted, SomeRefuted, Counter};
+ghost use Rattle.trees.specs.Counter.{Refuted, SomeRefuted, Counter};
 ghost use Rattle.shapes.specs.Gathered.{Gathers, leftOf, rightOf, Acts};
 ghost use Rattle.inclusion.specs.Verdict.{verdictOf, verdictBut};
 

@@ -13,7 +13,7 @@ use Rattle.task.specs.Task.{applies, after}
 use Rattle.task.specs.Reach.{member}
 use Rattle.task.proofs.Tests.{and-left, and-right, and-both, or-cases, or-right, same, holds, never, member-none, member-first, member-cases}
 use Rattle.meaning.specs.Sets.{allBelow, someBelow}
-use Rattle.shapes.specs.Counter.{seen}
+use Rattle.trees.specs.Counter.{seen}
 use Rattle.listed.specs.declared.Rows.{Rows}
 use Rattle.listed.specs.Listed.{statesAt, InOrder, leafHolds, leafStates, leafHoldsAt, leafStatesAt, Shows}
 use Rattle.listed.specs.Search.{ListsAfter, RowsAfter, Held, spared, holdsAt, showsIn, Readable}

@@ -13,7 +13,7 @@ use Rattle.task.specs.Reach.{member}
 use Rattle.certificate.specs.Views.{numberAt}
 use Rattle.meaning.specs.Writing.{Ascending}
 use Rattle.meaning.specs.Sets.{allBelow, meets}
-use Rattle.shapes.specs.Counter.{seen}
+use Rattle.trees.specs.Counter.{seen}
 use Rattle.propagation.specs.Clauses.{clauseAt}
 
 -- `count` states of 8 bytes from place `at`

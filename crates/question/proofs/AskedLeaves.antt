@@ -12,13 +12,13 @@ use Rattle.meaning.specs.File.{Basic, empty, init, goal, explicit, horn, twoCnf
 use Rattle.certificate.specs.Views.{viewOf}
 use Rattle.certificate.specs.Known.{Known, decoded, statePlace}
 use Rattle.meaning.specs.Sets.{inSet}
-use Rattle.shapes.specs.Counter.{Leaf}
-use Rattle.shapes.specs.Flat.{numbersOf, flag}
-use Rattle.shapes.specs.declared.trees.Node.{Node}
-use Rattle.shapes.specs.Trees.{nodeOf}
+use Rattle.trees.specs.Counter.{Leaf}
+use Rattle.trees.specs.Flat.{numbersOf, flag}
+use Rattle.trees.specs.declared.Node.{Node}
+use Rattle.trees.specs.Trees.{nodeOf}
 use Rattle.listed.specs.Listed.{InOrder, leafHolds}
 use Rattle.meaning.specs.Shapes.{kindAt, isBasic}
-use Rattle.shapes.proofs.FlatLaws.{kind-number, viewAt, LeafIs}
+use Rattle.trees.proofs.FlatLaws.{kind-number, viewAt, LeafIs}
 use Rattle.inclusion.proofs.FlatHolds.{by-leaf, numbers-hold}
 use Rattle.inclusion.proofs.FlatFits.{states-ordered}
 

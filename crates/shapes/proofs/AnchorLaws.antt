@@ -15,8 +15,8 @@ use borrow.Author.Tests.{eq-eqb, ne-eqb}
 use Rattle.task.proofs.Tests.{excluded, never, same}
 use Rattle.meaning.specs.File.{File}
 use Rattle.meaning.specs.Shapes.{keep, Sides, kindAt, child, others, complements, movedLeft, bracket}
-use Rattle.shapes.specs.Counter.{Leaf, leftLeaves}
-use Rattle.shapes.specs.Flat.{flag}
+use Rattle.trees.specs.Counter.{Leaf, leftLeaves}
+use Rattle.trees.specs.Flat.{flag}
 use Rattle.shapes.specs.Gathered.{kindsOf}
 use Rattle.shapes.specs.declared.sorts.Counts.{Counts}
 use Rattle.shapes.specs.Arrays.{Put}

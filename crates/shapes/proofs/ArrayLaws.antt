@@ -10,14 +10,14 @@ use lib.ListN.{length, take, getD, set, length-append, length-set, length-map}
 use lib.Seq.{take-suc, take-suc-set, getD-set-other, length-take-le}
 use Rattle.meaning.specs.File.{File}
 use Rattle.meaning.specs.Shapes.{keep}
-use Rattle.shapes.specs.Counter.{Leaf}
-use Rattle.shapes.specs.Flat.{flatLeaf, flatOf, flag}
-use Rattle.shapes.specs.declared.trees.Leaves.{Leaves}
-use Rattle.shapes.specs.Trees.{nodeAt, listOf, Sound}
-use Rattle.shapes.specs.declared.trees.Node.{Node}
+use Rattle.trees.specs.Counter.{Leaf}
+use Rattle.trees.specs.Flat.{flatLeaf, flatOf, flag}
+use Rattle.trees.specs.declared.Leaves.{Leaves}
+use Rattle.trees.specs.Trees.{nodeAt, listOf, Sound}
+use Rattle.trees.specs.declared.Node.{Node}
 use Rattle.shapes.specs.Arrays.{entryOf, wants, picked, Room, Put}
-use Rattle.shapes.proofs.NodeLaws.{node-numbers}
-use Rattle.shapes.proofs.TreeLaws.{keep-append, keep-short, count-list}
+use Rattle.trees.proofs.NodeLaws.{node-numbers}
+use Rattle.trees.proofs.TreeLaws.{keep-append, keep-short, count-list}
 
 -- ---- four numbers written at place i
 

@@ -11,9 +11,9 @@ use Rattle.task.specs.declared.Action.{Action}
 use Rattle.meaning.specs.File.{File}
 use Rattle.meaning.proofs.Order.{Ordered}
 use Rattle.meaning.specs.Shapes.{keep, kindAt}
-use Rattle.shapes.specs.Counter.{Leaf, seen, NoneIn, Counter}
-use Rattle.shapes.specs.Flat.{notEmpty}
-use Rattle.shapes.proofs.Leaves.{in-empty}
+use Rattle.trees.specs.Counter.{Leaf, seen, NoneIn, Counter}
+use Rattle.trees.specs.Flat.{notEmpty}
+use Rattle.trees.proofs.LeafLaws.{in-empty}
 
 -- the kind of a leaf's entry
 abbrev pub kindOf : File → Leaf → ℕ

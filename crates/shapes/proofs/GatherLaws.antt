@@ -11,8 +11,8 @@ use Rattle.task.specs.Reach.{member, every}
 use Rattle.task.proofs.Tests.{and-left, and-right, and-both, holds}
 use Rattle.meaning.specs.File.{File}
 use Rattle.meaning.specs.Shapes.{keep, Sides, isBasic, isLiteral, movedLeft, movedRight, bracket, permitted}
-use Rattle.shapes.specs.Counter.{Leaf, leftLeaves, rightLeaves}
-use Rattle.shapes.specs.Flat.{notEmpty}
+use Rattle.trees.specs.Counter.{Leaf, leftLeaves, rightLeaves}
+use Rattle.trees.specs.Flat.{notEmpty}
 use Rattle.shapes.specs.Gathered.{kindsOf, sidesOf, throughOf, leftOf, rightOf, actionsOfRule, Gathers}
 use Rattle.shapes.specs.declared.sorts.Counts.{Counts}
 use Rattle.shapes.specs.declared.sorts.Flags.{Flags}
@@ -20,7 +20,7 @@ use Rattle.shapes.specs.declared.shape.Gathered.{Gathered}
 use Rattle.shapes.specs.Arrays.{Put}
 use Rattle.shapes.specs.Decided.{kindIn, flagsIn, mayAnchor, toOf, permitsBy, Decided, literalsOf, Filled, anchorsOf, Zeros}
 use Rattle.shapes.proofs.Filled.{kindOf, filled-cases}
-use Rattle.shapes.proofs.FlatLaws.{holding-of}
+use Rattle.trees.proofs.FlatLaws.{holding-of}
 use Rattle.shapes.proofs.LeafKinds.{kinds-left, kinds-right, right-count, basic-left, basic-right}
 use Rattle.shapes.proofs.KindLaws.{hit, length-kinds, put-length, put-flat, row-all, kind-in}
 use Rattle.shapes.proofs.PickLaws.{picked-outside, picked-left, picked-right}

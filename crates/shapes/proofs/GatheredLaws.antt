@@ -17,7 +17,7 @@ use Rattle.shapes.specs.declared.sorts.Counts.{Counts}
 use Rattle.shapes.specs.declared.parts.Parts.{Parts}
 use Rattle.shapes.specs.declared.shape.Gathered.{Gathered}
 use Rattle.shapes.specs.Decided.{clausesBy, statesBy, pairBy, permitsBy, Decided, sidesIn, Parted, anchorsOf, literalsOf, Filled, Zeros}
-use Rattle.shapes.proofs.TreeLaws.{count-list}
+use Rattle.trees.proofs.TreeLaws.{count-list}
 use Rattle.shapes.proofs.DecideLaws.{permits-pair, permits-sorts}
 use Rattle.shapes.proofs.KindLaws.{hit}
 use Rattle.shapes.proofs.ShapeLaws.{permitted-by, pairSides, paired-by}

@@ -13,13 +13,13 @@ use Rattle.task.specs.Reach.{member}
 use Rattle.task.proofs.Tests.{both-ways, or-left, or-right, or-cases, excluded, same, member-first, member-rest, member-cases, member-none}
 use Rattle.meaning.specs.File.{File}
 use Rattle.meaning.specs.Shapes.{kindAt}
-use Rattle.shapes.specs.Counter.{Leaf}
-use Rattle.shapes.specs.Flat.{flag, flatOf}
+use Rattle.trees.specs.Counter.{Leaf}
+use Rattle.trees.specs.Flat.{flag, flatOf}
 use Rattle.shapes.specs.Gathered.{kindsOf}
 use Rattle.shapes.specs.Arrays.{Put}
 use Rattle.shapes.specs.Decided.{kindIn, mayAnchor, Anchor}
 use Rattle.meaning.proofs.Below.{some-at, some-of}
-use Rattle.shapes.proofs.FlatLaws.{at-kind, at-flag}
+use Rattle.trees.proofs.FlatLaws.{at-kind, at-flag}
 
 -- ---- a number in a list, by its index
 

@@ -11,10 +11,10 @@ use Rattle.task.specs.Reach.{every}
 use Rattle.task.proofs.Tests.{and-left, and-right, and-both, or-cases, not-of}
 use Rattle.meaning.specs.File.{File}
 use Rattle.meaning.specs.Shapes.{keep, theOnly, Sides, kindAt, child, isBasic, isComplement, isLiteral, literalKind, complements, others, movedLeft, movedRight, bracket}
-use Rattle.shapes.specs.Counter.{Leaf, leftLeaves, rightLeaves}
-use Rattle.shapes.proofs.Lists.{keep-cases, every-map, of-append}
+use Rattle.trees.specs.Counter.{Leaf, leftLeaves, rightLeaves}
+use Rattle.trees.proofs.Lists.{keep-cases, every-map, of-append}
 use Rattle.shapes.proofs.Moved.{leaf, under, plain, turned}
-use Rattle.shapes.specs.Flat.{notEmpty}
+use Rattle.trees.specs.Flat.{notEmpty}
 use Rattle.shapes.proofs.Filled.{kindOf, filled-count}
 
 -- a list with one element, which passes the test

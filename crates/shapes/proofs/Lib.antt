@@ -1,11 +1,6 @@
-pub mod Lists
-pub mod Leaves
 pub mod Moved
 pub mod Filled
 pub mod LeafKinds
-pub mod NodeLaws
-pub mod FlatLaws
-pub mod TreeLaws
 pub mod ArrayLaws
 pub mod KindLaws
 pub mod PickLaws

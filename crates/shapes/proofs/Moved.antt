@@ -14,10 +14,10 @@ use Rattle.meaning.specs.File.{File}
 use Rattle.meaning.proofs.Order.{Ordered}
 use Rattle.meaning.specs.Sets.{inSet}
 use Rattle.meaning.specs.Shapes.{keep, Sides, child, isComplement}
-use Rattle.shapes.specs.Counter.{Leaf, seen, AllIn, NoneIn, leftLeaves, rightLeaves}
+use Rattle.trees.specs.Counter.{Leaf, seen, AllIn, NoneIn, leftLeaves, rightLeaves}
 use Rattle.meaning.proofs.Sets.{and-iff}
-use Rattle.shapes.proofs.Lists.{every-split, kept-same, tests-agree, of-append, of-map, of-index}
-use Rattle.shapes.proofs.Leaves.{in-complement}
+use Rattle.trees.proofs.Lists.{every-split, kept-same, tests-agree, of-append, of-map, of-index}
+use Rattle.trees.proofs.LeafLaws.{in-complement}
 
 -- the leaf holds, asked as it says
 abbrev pub asked : File → Action → ℕ → Leaf → Bool

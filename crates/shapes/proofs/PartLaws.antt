@@ -15,12 +15,12 @@ use Rattle.meaning.specs.File.{File, stateSetAt, second}
 use Rattle.meaning.proofs.Order.{Ordered}
 use Rattle.meaning.specs.Shapes.{keep, Sides, kindAt, child, leaves, isBasic, isLiteral, ofLiterals, ofClauses, ofStates, permitted, shape₁, shapeWith}
 use Rattle.shapes.specs.Gathered.{bracketLeaf, bracketSides}
-use Rattle.shapes.specs.declared.trees.Leaves.{Leaves}
+use Rattle.trees.specs.declared.Leaves.{Leaves}
 use Rattle.shapes.specs.declared.parts.Parts.{Parts}
-use Rattle.shapes.specs.Trees.{listOf, Lists, hasKind}
+use Rattle.trees.specs.Trees.{listOf, Lists, hasKind}
 use Rattle.shapes.specs.Decided.{sidesIn, Holding, Paired, Plain, Bracketed}
 use Rattle.shapes.proofs.LeafKinds.{the-only}
-use Rattle.shapes.proofs.Leaves.{leaves-tree, leaves-leaf, by-tree}
+use Rattle.trees.proofs.LeafLaws.{leaves-tree, leaves-leaf, by-tree}
 
 -- ---- the first nine
 

@@ -10,11 +10,11 @@ use Rattle.task.specs.Reach.{every}
 use Rattle.task.proofs.Tests.{and-left, and-right, and-both, excluded, never, not-of}
 use Rattle.meaning.specs.File.{File}
 use Rattle.meaning.specs.Shapes.{keep, Sides, kindAt, isBasic, isComplement}
-use Rattle.shapes.specs.Counter.{Leaf, leftLeaves, rightLeaves}
-use Rattle.shapes.specs.Flat.{notEmpty}
+use Rattle.trees.specs.Counter.{Leaf, leftLeaves, rightLeaves}
+use Rattle.trees.specs.Flat.{notEmpty}
 use Rattle.shapes.specs.Arrays.{entryOf, onSide, wants, picked}
 use Rattle.shapes.specs.Decided.{pickedOutside, pickedLeft, pickedRight}
-use Rattle.shapes.proofs.Lists.{keep-cases}
+use Rattle.trees.proofs.Lists.{keep-cases}
 use Rattle.shapes.proofs.Moved.{leaf, under, plain, turned}
 use Rattle.shapes.proofs.Filled.{kindOf, filled-cases, filled-append}
 

@@ -13,7 +13,7 @@ use Rattle.meaning.specs.File.{File}
 use Rattle.meaning.specs.Shapes.{keep, theOnly, Sides, kindAt, child, leaves, isBasic, isLiteral, movedLeft, bracket, permitted, shape₁, shapeWith, shape₂, shape₃}
 use Rattle.shapes.specs.Gathered.{bracketLeaf, bracketSides, shapeOf, sidesOf, actionsOfRule}
 use Rattle.shapes.specs.declared.parts.Parts.{Parts}
-use Rattle.shapes.specs.Trees.{basicOr}
+use Rattle.trees.specs.Trees.{basicOr}
 use Rattle.shapes.specs.Decided.{Paired, Plain, Bracketed, anchorsOf, Parted}
 
 module _ (f : File) (rule a b : ℕ) (r : Parts) where

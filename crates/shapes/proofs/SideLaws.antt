@@ -7,7 +7,7 @@ use mathlib.Core.Bool.{Bool, true, false, not}
 use mathlib.Core.List.{List}
 use Rattle.meaning.specs.File.{File}
 use Rattle.shapes.specs.declared.parts.Parts.{Parts}
-use Rattle.shapes.specs.Trees.{listOf}
+use Rattle.trees.specs.Trees.{listOf}
 use Rattle.shapes.specs.Arrays.{picked, Put}
 use Rattle.shapes.specs.Decided.{SoundParts, sidesIn, pickedOutside, pickedLeft, pickedRight, Filled}
 use Rattle.shapes.proofs.ArrayLaws.{put-append, put-bounds}

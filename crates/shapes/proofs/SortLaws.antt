@@ -14,7 +14,7 @@ use Rattle.meaning.specs.File.{File}
 use Rattle.meaning.specs.Shapes.{keep, isComplement, literalKind, others, complements, movedLeft, movedRight, bracket}
 use Rattle.shapes.specs.declared.sorts.Flags.{Flags}
 use Rattle.shapes.specs.Decided.{clausesBy, statesBy, pairBy}
-use Rattle.shapes.proofs.TreeLaws.{keep-short}
+use Rattle.trees.proofs.TreeLaws.{keep-short}
 use Rattle.shapes.proofs.KindLaws.{hit}
 use Rattle.shapes.proofs.ShapeLaws.{pairSides}
 

@@ -8,8 +8,8 @@ use lib.ListN.{length, take, getD}
 use lib.Dec.{eqb}
 use Rattle.meaning.specs.File.{File}
 use Rattle.meaning.specs.Shapes.{keep, kindAt, child, isComplement}
-use Rattle.shapes.specs.Counter.{Leaf}
-use Rattle.shapes.specs.Flat.{flatOf}
+use Rattle.trees.specs.Counter.{Leaf}
+use Rattle.trees.specs.Flat.{flatOf}
 
 module _ (f : File) (turned : Bool) where
   -- the entry itself, or the one that it names

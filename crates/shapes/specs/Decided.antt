@@ -10,13 +10,13 @@ use Rattle.meaning.specs.File.{File, stateSetAt, second}
 use Rattle.meaning.specs.Sets.{someBelow}
 use Rattle.task.specs.Reach.{every}
 use Rattle.meaning.specs.Shapes.{keep, Sides, kindAt, leaves, isBasic, isLiteral, movedLeft, bracket, permitted, shape₁, shapeWith}
-use Rattle.shapes.specs.Counter.{Leaf}
+use Rattle.trees.specs.Counter.{Leaf}
 use Rattle.shapes.specs.Gathered.{bracketLeaf, bracketSides, shapeOf, sidesOf, actionsOfRule}
 use Rattle.shapes.specs.declared.shape.Gathered.{Gathered}
 use Rattle.shapes.specs.declared.parts.Parts.{Parts}
 use Rattle.shapes.specs.declared.sorts.Counts.{Counts}
 use Rattle.shapes.specs.declared.sorts.Flags.{Flags}
-use Rattle.shapes.specs.Trees.{listOf, Sound}
+use Rattle.trees.specs.Trees.{listOf, Sound}
 use Rattle.shapes.specs.Arrays.{picked, Put}
 
 -- ---- the kinds that stand in the arrays

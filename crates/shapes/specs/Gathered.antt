@@ -12,8 +12,8 @@ use Rattle.meaning.specs.File.{File, stateSetAt, second}
 use Rattle.meaning.specs.Shapes.{keep, Sides, kindAt, child, leaves, shape₁, shape₂, shape₃, shape₄}
 use Rattle.task.specs.declared.Action.{Action}
 use Rattle.task.specs.Inner.{noAction}
-use Rattle.shapes.specs.Counter.{Leaf, ActionsOf, leftLeaves, rightLeaves}
-use Rattle.shapes.specs.Flat.{flatOf, notEmpty}
+use Rattle.trees.specs.Counter.{Leaf, ActionsOf, leftLeaves, rightLeaves}
+use Rattle.trees.specs.Flat.{flatOf, notEmpty}
 use Rattle.shapes.specs.declared.shape.Gathered.{Gathered}
 
 module _ (f : File) where

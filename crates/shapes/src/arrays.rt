@@ -1,15 +1,15 @@
 // Leaves written into an array, four numbers each: kind, place of the first item, count of items, and 1 where the leaf is
 // asked about the state after the action.
-use crate::trees::Leaves;
-use crate::trees::has_kind;
-use crate::trees::node_at;
 use certificate::Places;
+use trees::Leaves;
+use trees::has_kind;
+use trees::node_at;
 ghost use mathlib.Core.Path.{_≡_};
 ghost use Prim.Native.Nat.{_+_, _*_};
 ghost use mathlib.Core.List.{[], _∷_};
 ghost use Rattle.certificate.specs.Known.{Known, decoded};
-ghost use Rattle.shapes.specs.Flat.{flag};
-ghost use Rattle.shapes.specs.Trees.{listOf, Sound};
+ghost use Rattle.trees.specs.Flat.{flag};
+ghost use Rattle.trees.specs.Trees.{listOf, Sound};
 ghost use Rattle.shapes.specs.Arrays.{entryOf, wants, picked, Room, Put};
 
 // 1 for true, 0 for false.

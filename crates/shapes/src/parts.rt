@@ -1,12 +1,12 @@
 // A statement's leaves as they are written, before complements change sides.
-use crate::trees::Leaves;
-use crate::trees::all_basic;
-use crate::trees::node_at;
-use crate::trees::none;
-use crate::trees::of_kind;
-use crate::trees::one;
-use crate::trees::tree;
 use certificate::Places;
+use trees::Leaves;
+use trees::all_basic;
+use trees::node_at;
+use trees::none;
+use trees::of_kind;
+use trees::one;
+use trees::tree;
 ghost use mathlib.Core.Path.{_≡_};
 ghost use Prim.Native.Nat.{_≤_};
 ghost use Rattle.certificate.specs.Known.{Known, decoded};

@@ -36,7 +36,7 @@ use Rattle.listed.proofs.leaf_holds.Reads as leaf-holds-reads
 use Rattle.actions.proofs.marks.is_marked.Reads as is-marked-reads
 use Rattle.task.proofs.after.Reads as after-reads
 use Rattle.task.proofs.applies.Reads as applies-reads
-use Rattle.shapes.proofs.trees.node_of.Reads as node-of-reads
+use Rattle.trees.proofs.node_of.Reads as node-of-reads
 use Rattle.question.proofs.+member+try_each_action.{statement}
 use Rattle.question.proofs.+member+try_each_action.Tie.{close}
 

@@ -1,6 +1,6 @@
 -- `arrays::flag_of` meets its contract.
 -- Assumes nothing.
-use Rattle.shapes.specs.Flat.{flag}
+use Rattle.trees.specs.Flat.{flag}
 use Rattle.shapes.proofs.arrays.flag_of.Statement.{statement}
 use Rattle.shapes.proofs.arrays.flag_of.Tie as tie
 

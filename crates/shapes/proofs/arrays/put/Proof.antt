@@ -7,7 +7,7 @@ use borrow.Author.Needs.{needs}
 use lib.ListN.{length, take}
 use Rattle.certificate.specs.Known.{decoded}
 use Rattle.meaning.specs.Shapes.{keep}
-use Rattle.shapes.specs.Trees.{listOf}
+use Rattle.trees.specs.Trees.{listOf}
 use Rattle.shapes.specs.Arrays.{picked, Put}
 use Rattle.shapes.proofs.ArrayLaws.{put-none, put-next, put-room, put-end}
 use Rattle.shapes.proofs.arrays.put.Statement.{statement}

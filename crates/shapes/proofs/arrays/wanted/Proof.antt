@@ -2,9 +2,9 @@
 -- Assumes nothing.
 use borrow.Author.Needs.{needs}
 use Rattle.meaning.specs.Shapes.{isComplement}
-use Rattle.shapes.specs.Trees.{hasKind}
+use Rattle.trees.specs.Trees.{hasKind}
 use Rattle.shapes.specs.Arrays.{onSide, wants}
-use Rattle.shapes.proofs.NodeLaws.{node-kind}
+use Rattle.trees.proofs.NodeLaws.{node-kind}
 use Rattle.shapes.proofs.arrays.wanted.Statement.{statement}
 use Rattle.shapes.proofs.arrays.wanted.Tie as tie
 

@@ -3,7 +3,7 @@
 use mathlib.Core.Path.{refl}
 use borrow.Author.Needs.{needs}
 use Rattle.certificate.proofs.KnownLaws.{known-ordered}
-use Rattle.shapes.proofs.NodeLaws.{node-first, node-second}
+use Rattle.trees.proofs.NodeLaws.{node-first, node-second}
 use Rattle.shapes.proofs.PartLaws.{bracket-parts}
 use Rattle.shapes.proofs.parts.bracket.Statement.{statement}
 use Rattle.shapes.proofs.parts.bracket.Tie as tie

@@ -1,0 +1,3 @@
+pub mod Counter
+pub mod Trees
+pub mod Flat

@@ -1,0 +1,66 @@
+-- Entries by their numbers, and short lists of entries as the code holds them. Only the code's inner promises speak of this.
+-- Assumes nothing.
+use mathlib.Core.Path.{_≡_}
+use Prim.Native.Nat.{ℕ, _≤_}
+use mathlib.Core.Bool.{Bool, true, false, not, _&&_, _||_}
+use mathlib.Core.List.{List, [], _∷_, _++_}
+use lib.ListN.{length, take}
+use lib.Dec.{eqb}
+use Rattle.certificate.specs.declared.Span.{Span}
+use Rattle.certificate.specs.declared.StateEntry.{StateEntry}
+use Rattle.certificate.specs.declared.StateEntry.the-variants.{Empty, Init, Goal, Explicit, Horn, TwoCnf, Complement, Intersection, Union, Progression, Regression}
+use Rattle.meaning.specs.File.{File, stateSetAt}
+use Rattle.certificate.specs.Views.{viewOf}
+use Rattle.certificate.specs.Known.{statePlace}
+use Rattle.meaning.specs.Shapes.{kindAt, child, isBasic, isComplement}
+use Rattle.trees.specs.declared.Node.{Node}
+use Rattle.trees.specs.declared.Leaves.{Leaves}
+
+-- an entry's kind, the place and count of its items, and the two entries that it names; 0 for what it lacks
+abbrev pub listing : ℕ → Span → Node
+listing k s = record { kind = k; at = s .at; count = s .count; first = 0; second = 0 }
+
+abbrev pub naming : ℕ → ℕ → ℕ → Node
+naming k a b = record { kind = k; at = 0; count = 0; first = a; second = b }
+
+unfoldable pub nodeOf : StateEntry → Node
+nodeOf Empty = naming 0 0 0
+nodeOf Init = naming 1 0 0
+nodeOf Goal = naming 2 0 0
+nodeOf (Explicit s) = listing 3 s
+nodeOf (Horn s) = listing 4 s
+nodeOf (TwoCnf s) = listing 5 s
+nodeOf (Complement a) = naming 6 a 0
+nodeOf (Intersection a b) = naming 7 a b
+nodeOf (Union a b) = naming 8 a b
+nodeOf (Progression a b) = naming 9 a b
+nodeOf (Regression a b) = naming 10 a b
+
+unfoldable pub nodeAt : List ℕ → File → ℕ → Node
+nodeAt index f e = nodeOf (viewOf (statePlace index e) (stateSetAt f e))
+
+-- the entries that a list holds, of at most nine
+unfoldable pub listOf : Leaves → List ℕ
+listOf x = take (x .count) (x .items)
+
+pub record Sound (x : Leaves) : Type 0 where
+  pub few : x .count ≤ 9
+  pub room : length (x .items) ≡ 9
+
+pub record Lists (x : Leaves) (es : List ℕ) : Type 0 where
+  pub sound : Sound x
+  pub same : listOf x ≡ es
+  pub size : x .count ≡ length es
+
+-- one entry more, nine at most, if it is wanted
+unfoldable pub withWanted : List ℕ → ℕ → Bool → List ℕ
+withWanted es e want = elim want [ true ↦ take 9 (es ++ e ∷ []) | false ↦ es ]
+
+module _ (f : File) where
+  -- the entry is of kind k; it is of another
+  unfoldable pub hasKind : ℕ → Bool → ℕ → Bool
+  hasKind k is e = elim is [ true ↦ eqb (kindAt f e) k | false ↦ not (eqb (kindAt f e) k) ]
+
+  -- the entry is of kinds 0 to 5 or, where that is allowed, the complement of one that is
+  unfoldable pub basicOr : Bool → ℕ → Bool
+  basicOr turned e = isBasic f e || (turned && isComplement f e && isBasic f (child f e))

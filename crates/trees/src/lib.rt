@@ -1,0 +1,205 @@
+// Entries by their numbers, and lists of few entries: the leaves of a tree, those of a kind, and tests of all.
+use certificate::Places;
+use certificate::Span;
+use certificate::StateEntry;
+use certificate::known::state_set;
+ghost use mathlib.Core.Path.{_≡_};
+ghost use mathlib.Core.Bool.{_||_};
+ghost use mathlib.Core.List.{[], _∷_, _++_};
+ghost use lib.ListN.{take};
+ghost use lib.Dec.{T, eqb};
+ghost use Rattle.certificate.specs.Known.{Known, decoded};
+ghost use Rattle.task.specs.Reach.{every};
+ghost use Rattle.meaning.specs.Shapes.{keep, leaves};
+ghost use Rattle.trees.specs.Trees.{listing, naming, nodeOf, nodeAt, listOf, Sound, Lists, withWanted, hasKind, basicOr};
+
+// An entry's kind, the place and count of its items, and the two entries that it names; 0 for what it lacks.
+pub struct Node {
+    pub kind: u8,
+    pub at: u32,
+    pub count: u16,
+    pub first: u16,
+    pub second: u16,
+}
+
+// At most nine entries.
+pub struct Leaves {
+    pub items: [u16; 9],
+    pub count: u8,
+}
+
+// The numbers of an entry with items, and of one without that names others.
+fn listing(kind: u8, s: Span) -> Node
+    ensures { λ r. ⌜ r ≡ listing kind s ⌝ }
+{
+    Node {
+        kind,
+        at: s.at,
+        count: s.count,
+        first: 0,
+        second: 0,
+    }
+}
+
+fn naming(kind: u8, a: u16, b: u16) -> Node
+    ensures { λ r. ⌜ r ≡ naming kind a b ⌝ }
+{
+    Node {
+        kind,
+        at: 0,
+        count: 0,
+        first: a,
+        second: b,
+    }
+}
+
+pub fn node_of(x: StateEntry) -> Node
+    ensures { λ r. ⌜ r ≡ nodeOf x ⌝ }
+{
+    match x {
+        StateEntry::Empty => naming(0, 0, 0),
+        StateEntry::Init => naming(1, 0, 0),
+        StateEntry::Goal => naming(2, 0, 0),
+        StateEntry::Explicit(s) => listing(3, s),
+        StateEntry::Horn(s) => listing(4, s),
+        StateEntry::TwoCnf(s) => listing(5, s),
+        StateEntry::Complement(a) => naming(6, a, 0),
+        StateEntry::Intersection(a, b) => naming(7, a, b),
+        StateEntry::Union(a, b) => naming(8, a, b),
+        StateEntry::Progression(a, b) => naming(9, a, b),
+        StateEntry::Regression(a, b) => naming(10, a, b),
+    }
+}
+
+// The numbers of an entry.
+pub fn node_at(file: &[u8], at: Places, index: &[u16; 768], e: u16) -> Node
+    requires { ⌜ Known (now file) at (now index) ⌝ }
+    ensures { λ r. ⌜ r ≡ nodeAt (now (index .entry)) (decoded (now (file .entry))) e ⌝ }
+{
+    node_of(state_set(file, at, index, e))
+}
+
+// One entry more, where there are fewer than nine.
+fn with(xs: Leaves, e: u16) -> Leaves
+    requires { ⌜ Sound xs ⌝ }
+    ensures { λ r. ⌜ Lists r (take 9 (listOf xs ++ e ∷ [])) ⌝ }
+{
+    if 9 <= xs.count {
+        return xs;
+    }
+    let mut items = xs.items;
+    items[xs.count as usize] = e;
+    Leaves {
+        items,
+        count: xs.count + 1,
+    }
+}
+
+// The leaves of the tree of entries of kind k at entry e, after those that there are; nine are enough.
+fn collect(file: &[u8], at: Places, index: &[u16; 768], k: u8, e: u16, xs: Leaves) -> Leaves
+    requires { ⌜ Known (now file) at (now index) ⌝ }
+    requires { ⌜ T (eqb k 7 || eqb k 8) ⌝ }
+    requires { ⌜ Sound xs ⌝ }
+    ensures { λ r. ⌜ Lists r (take 9 (listOf xs ++ leaves (decoded (now (file .entry))) k e)) ⌝ }
+{
+    if 9 <= xs.count {
+        return xs;
+    }
+    let x = node_at(file, at, index, e);
+    if x.kind != k {
+        return with(xs, e);
+    }
+    let ys = collect(file, at, index, k, x.first, xs);
+    collect(file, at, index, k, x.second, ys)
+}
+
+// No entries.
+pub fn none() -> Leaves
+    ensures { λ r. ⌜ Lists r [] ⌝ }
+{
+    Leaves {
+        items: [0; 9],
+        count: 0,
+    }
+}
+
+// One entry.
+pub fn one(e: u16) -> Leaves
+    ensures { λ r. ⌜ Lists r (e ∷ []) ⌝ }
+{
+    with(none(), e)
+}
+
+// The first nine leaves of the tree of entries of kind k at entry e.
+pub fn tree(file: &[u8], at: Places, index: &[u16; 768], k: u8, e: u16) -> Leaves
+    requires { ⌜ Known (now file) at (now index) ⌝ }
+    requires { ⌜ T (eqb k 7 || eqb k 8) ⌝ }
+    ensures { λ r. ⌜ Lists r (take 9 (leaves (decoded (now (file .entry))) k e)) ⌝ }
+{
+    collect(file, at, index, k, e, none())
+}
+
+// One entry more if it is wanted.
+fn with_wanted(xs: Leaves, e: u16, want: bool) -> Leaves
+    requires { ⌜ Sound xs ⌝ }
+    ensures { λ r. ⌜ Lists r (withWanted (listOf xs) e want) ⌝ }
+{
+    if want { with(xs, e) } else { xs }
+}
+
+// Whether an entry is of kind k, or whether it is not.
+pub fn has_kind(file: &[u8], at: Places, index: &[u16; 768], e: u16, k: u8, is: bool) -> bool
+    requires { ⌜ Known (now file) at (now index) ⌝ }
+    ensures { λ r. ⌜ r ≡ hasKind (decoded (now (file .entry))) k is e ⌝ }
+{
+    let x = node_at(file, at, index, e);
+    if is { x.kind == k } else { x.kind != k }
+}
+
+// The entries of kind k, or those that are of other kinds.
+pub fn of_kind(file: &[u8], at: Places, index: &[u16; 768], xs: Leaves, k: u8, is: bool) -> Leaves
+    requires { ⌜ Known (now file) at (now index) ⌝ }
+    requires { ⌜ Sound xs ⌝ }
+    ensures { λ r. ⌜ Lists r (keep (hasKind (decoded (now (file .entry))) k is) (listOf xs)) ⌝ }
+{
+    let items = xs.items;
+    let count = xs.count;
+    let mut out = none();
+    let mut i = 0u8;
+    while i < count {
+        let e = items[i as usize];
+        let want = has_kind(file, at, index, e, k, is);
+        out = with_wanted(out, e, want);
+        i += 1;
+    }
+    out
+}
+
+// Whether an entry is of kinds 0 to 5 or, where that is allowed, the complement of one that is.
+fn is_basic(file: &[u8], at: Places, index: &[u16; 768], e: u16, turned: bool) -> bool
+    requires { ⌜ Known (now file) at (now index) ⌝ }
+    ensures { λ r. ⌜ r ≡ basicOr (decoded (now (file .entry))) turned e ⌝ }
+{
+    let x = node_at(file, at, index, e);
+    let y = node_at(file, at, index, x.first);
+    (x.kind <= 5) | (turned & (x.kind == 6) & (y.kind <= 5))
+}
+
+// Whether all entries are.
+pub fn all_basic(file: &[u8], at: Places, index: &[u16; 768], xs: Leaves, turned: bool) -> bool
+    requires { ⌜ Known (now file) at (now index) ⌝ }
+    requires { ⌜ Sound xs ⌝ }
+    ensures { λ r. ⌜ r ≡ every (basicOr (decoded (now (file .entry))) turned) (listOf xs) ⌝ }
+{
+    let items = xs.items;
+    let count = xs.count;
+    let mut all = true;
+    let mut i = 0u8;
+    while i < count {
+        let e = items[i as usize];
+        let basic = is_basic(file, at, index, e, turned);
+        all = all & basic;
+        i += 1;
+    }
+    all
+}
