@@ -11,19 +11,20 @@ use borrow.Author.Tests.{eq-eqb, ne-eqb, not-true, not-false}
 use Rattle.task.specs.Task.{Task}
 use Rattle.task.proofs.Tests.{and-left, and-right, holds}
 use Rattle.certificate.specs.declared.Outline.the-variants.{Lawful, Refused}
-use Rattle.layout.specs.declared.Verdict.{Verdict}
+use Rattle.bodies.specs.declared.Verdict.{Verdict}
 use Rattle.layout.specs.declared.Rest.{Rest}
-use Rattle.layout.specs.declared.Verdict.the-variants.{Fine, Refused as Said}
+use Rattle.bodies.specs.declared.Verdict.the-variants.{Fine, Refused as Said}
 use Rattle.layout.specs.declared.Rest.the-variants.{After as Both, Refused as Ended}
 use Rattle.meaning.specs.Result.{Result, refuse, found}
 use Rattle.meaning.specs.Bytes.{number}
 use Rattle.meaning.specs.File.{File}
 use Rattle.certificate.specs.Views.{numberAt, outlineTo, outlineOf}
 use Rattle.meaning.specs.Layout.{count, readTask, readFile}
-use Rattle.layout.specs.Verdicts.{verdict, rest, sectionAt, stepsAt, restAt}
+use Rattle.bodies.specs.Verdicts.{verdict}
+use Rattle.layout.specs.Sections.{rest, sectionAt, stepsAt, restAt}
 use Rattle.meaning.proofs.Results.{bind-case, found-same}
 use Rattle.certificate.proofs.ByteLaws.{number-in}
-use Rattle.layout.proofs.Verdicts.{found-of, refused-of, goes-on, stops, passed, failed}
+use Rattle.bodies.proofs.Verdicts.{found-of, refused-of, goes-on, stops, passed, failed}
 use Rattle.layout.proofs.SectionChecks.{count-is}
 use Rattle.layout.proofs.OutlineLaws.{TaskIs, task-is, Agree, refusals, values, start, later, tail, placed, Placed, tail-agrees}
 

@@ -1,12 +1,5 @@
-pub mod BodyLaws
-pub mod FieldLaws
-pub mod FormLaws
 pub mod LayoutLaws
-pub mod MaskLaws
 pub mod OutlineLaws
-pub mod PartLaws
 pub mod RestLaws
 pub mod TaskLaws
-pub mod Verdicts
-pub mod EntryChecks
 pub mod SectionChecks

@@ -15,7 +15,8 @@ use Rattle.meaning.specs.File.{File, ActionSet, StateSet, Step}
 use Rattle.certificate.specs.Views.{numberAt, afterEntry, entryPlace, placesOf}
 use Rattle.meaning.specs.Layout.{items, field, count, mask, action, step, Kind, actionKinds, stateKinds, entry, entries, readTask}
 use Rattle.meaning.specs.Writing.{FitsAction}
-use Rattle.layout.specs.Verdicts.{verdict, sectionAt, stepsAt, restAt}
+use Rattle.bodies.specs.Verdicts.{verdict}
+use Rattle.layout.specs.Sections.{sectionAt, stepsAt, restAt}
 use Rattle.meaning.proofs.Results.{bind-case, need-case, found-same}
 use Rattle.meaning.proofs.Given.{action-gives, items-give, action-sets-give, state-sets-give}
 use Rattle.certificate.proofs.ByteLaws.{number-in}

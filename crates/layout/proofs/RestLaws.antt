@@ -5,16 +5,17 @@ use Prim.Native.Nat.{ℕ, _+_, _*_}
 use native.Mathlib.Omega.{arith}
 use mathlib.Core.Bool.{true, false}
 use mathlib.Core.List.{List}
-use Rattle.layout.specs.declared.Verdict.{Verdict}
+use Rattle.bodies.specs.declared.Verdict.{Verdict}
 use Rattle.layout.specs.declared.Walk.{Walk}
-use Rattle.layout.specs.declared.Verdict.the-variants.{Fine, Refused}
+use Rattle.bodies.specs.declared.Verdict.the-variants.{Fine, Refused}
 use Rattle.layout.specs.declared.Walk.the-variants.{After, Refused as Stopped}
 use Rattle.layout.specs.declared.Rest.the-variants.{After as Both, Refused as Ended}
-use Rattle.layout.specs.declared.Section.{Section}
+use Rattle.bodies.specs.declared.Section.{Section}
 use Rattle.meaning.specs.Result.{Result, refuse, found}
 use Rattle.certificate.specs.Views.{numberAt}
-use Rattle.layout.specs.Verdicts.{verdict, walk, rest, sectionAt, stepsAt, restAt}
-use Rattle.layout.proofs.Verdicts.{found-of, refused-of, goes-on, stops}
+use Rattle.bodies.specs.Verdicts.{verdict}
+use Rattle.layout.specs.Sections.{walk, rest, sectionAt, stepsAt, restAt}
+use Rattle.bodies.proofs.Verdicts.{found-of, refused-of, goes-on, stops}
 
 walked-to : {A : Type 0} (r : Result (A × ℕ)) {v : Walk} {p : ℕ} → v ≡ After p → v ≡ walk r → (x : A) × (r ≡ found (x, p))
 walked-to (refuse n q) g e = let z : _≡_ {A = ℕ} 0 1 = cc in absurd (omega arith)

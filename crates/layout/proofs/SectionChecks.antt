@@ -8,21 +8,22 @@ use mathlib.Core.List.{List, _∷_}
 use lib.ListN.{length}
 use lib.Dec.{leb}
 use borrow.Author.Tests.{le-leb, lt-leb, not-true, not-false}
-use Rattle.layout.specs.declared.Verdict.{Verdict}
+use Rattle.bodies.specs.declared.Verdict.{Verdict}
 use Rattle.layout.specs.declared.Walk.{Walk}
-use Rattle.layout.specs.declared.Verdict.the-variants.{Fine, Refused}
+use Rattle.bodies.specs.declared.Verdict.the-variants.{Fine, Refused}
 use Rattle.layout.specs.declared.Walk.the-variants.{After, Refused as Stopped}
-use Rattle.layout.specs.declared.Section.{Section}
+use Rattle.bodies.specs.declared.Section.{Section}
 use Rattle.meaning.specs.Result.{Result, refuse, found, _>>=_}
 use Rattle.meaning.specs.Bytes.{number, inside}
 use Rattle.certificate.specs.Views.{numberAt}
 use Rattle.meaning.specs.File.{Step}
 use Rattle.meaning.specs.Layout.{items, field, count, step, Kind, entry, entries}
-use Rattle.layout.specs.Verdicts.{verdict, walk, setsOf, sectionAt, stepsAt}
+use Rattle.bodies.specs.Verdicts.{verdict, setsOf}
+use Rattle.layout.specs.Sections.{walk, sectionAt, stepsAt}
 use Rattle.meaning.proofs.Results.{bind-case, need-case, found-same}
 use Rattle.certificate.proofs.ByteLaws.{inside-in, inside-past, inside-out, number-in}
-use Rattle.layout.proofs.Verdicts.{forget, told-fine, told-refused, found-of, refused-of, goes-on, stops, passed, failed, forget-after, none-yet}
-use Rattle.layout.proofs.FieldLaws.{field-in}
+use Rattle.bodies.proofs.Verdicts.{forget, told-fine, told-refused, found-of, refused-of, goes-on, stops, passed, failed, forget-after, none-yet}
+use Rattle.bodies.proofs.FieldLaws.{field-in}
 use Rattle.task.proofs.Tests.{is-true}
 
 -- a field that is read

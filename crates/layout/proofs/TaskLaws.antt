@@ -8,16 +8,16 @@ use mathlib.Core.List.{List, [], _∷_}
 use lib.Dec.{leb}
 use borrow.Author.Tests.{eq-eqb, ne-eqb, not-true, not-false}
 use Rattle.task.specs.declared.Action.{Action}
-use Rattle.layout.specs.declared.Verdict.{Verdict}
-use Rattle.layout.specs.declared.Verdict.the-variants.{Fine, Refused}
+use Rattle.bodies.specs.declared.Verdict.{Verdict}
+use Rattle.bodies.specs.declared.Verdict.the-variants.{Fine, Refused}
 use Rattle.meaning.specs.Result.{Result, refuse, found, _>>=_}
 use Rattle.meaning.specs.Bytes.{inside}
 use Rattle.certificate.specs.Views.{numberAt}
 use Rattle.meaning.specs.Layout.{items, field, count, mask, action, readTask}
-use Rattle.layout.specs.Verdicts.{verdict}
+use Rattle.bodies.specs.Verdicts.{verdict}
 use Rattle.certificate.proofs.ByteLaws.{inside-out}
-use Rattle.layout.proofs.Verdicts.{forget, told, told-refused, refused-of, goes-on, stops, passed, failed, forget-after}
-use Rattle.layout.proofs.FieldLaws.{field-in}
+use Rattle.bodies.proofs.Verdicts.{forget, told, told-refused, refused-of, goes-on, stops, passed, failed, forget-after}
+use Rattle.bodies.proofs.FieldLaws.{field-in}
 use Rattle.layout.proofs.SectionChecks.{count-found}
 
 -- ---- runs of masks

@@ -2,7 +2,7 @@
 -- The loop's invariant: the entries that are left say what all of them say.
 -- Assumes nothing.
 use Prim.Native.Nat.{_-_, _≤_}
-use Rattle.layout.specs.Verdicts.{setsOf}
+use Rattle.bodies.specs.Verdicts.{setsOf}
 use Rattle.layout.proofs.SectionChecks.{EntriesLeft, entries-start, entries-end, entry-fine, entry-bad, entry-good}
 use borrow.Author.Needs.{needs}
 use Rattle.layout.proofs.entries.Statement.{statement}

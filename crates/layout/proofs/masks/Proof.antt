@@ -6,8 +6,8 @@ use Prim.Native.Nat.{_-_, _≤_, _<_}
 use borrow.Author.Tests.{not-false}
 use Rattle.meaning.specs.Layout.{mask}
 use Rattle.certificate.proofs.ByteLaws.{inside-out}
-use Rattle.layout.proofs.Verdicts.{ItemsLeft, items-start, items-done, item-bad, item-good}
-use Rattle.layout.proofs.FieldLaws.{mask-cut, mask-in, mask-high}
+use Rattle.bodies.proofs.Verdicts.{ItemsLeft, items-start, items-done, item-bad, item-good}
+use Rattle.bodies.proofs.FieldLaws.{mask-cut, mask-in, mask-high}
 use borrow.Author.Needs.{needs}
 use Rattle.layout.proofs.masks.Statement.{statement}
 use Rattle.layout.proofs.masks.Tie as tie

@@ -1,0 +1,122 @@
+-- One turn of each loop over a body's items, and its end.
+-- Assumes nothing.
+use mathlib.Core.Path.{_≡_, sym, ap, _∙_}
+use Prim.Native.Nat.{ℕ, zero, suc, _+_, _-_, _*_, _/_, _^_, _≤_, _<_}
+use native.Mathlib.Omega.{arith}
+use mathlib.Core.Bool.{Bool, true, false, not, _&&_}
+use mathlib.Core.List.{List}
+use lib.ListN.{length}
+use lib.Dec.{leb, ltb}
+use borrow.Author.Tests.{le-leb, lt-leb, lt-ltb, leb-true, leb-false, not-true, not-false}
+use Rattle.bodies.specs.declared.Form.{Form}
+use Rattle.bodies.specs.declared.Verdict.{Verdict}
+use Rattle.bodies.specs.declared.Verdict.the-variants.{Fine, Refused}
+use Rattle.meaning.specs.declared.Clause.{Clause}
+use Rattle.meaning.specs.Result.{Result, refuse, found}
+use Rattle.certificate.specs.Views.{numberAt}
+use Rattle.meaning.specs.Layout.{items, ascending, mask, clause}
+use Rattle.bodies.specs.Verdicts.{verdictFrom, ruleOf, formFits, formBody}
+use Rattle.bodies.proofs.Verdicts.{forget, from-fine, from-refused, none-yet, items-next, items-stop, items-end, ascending-next, ascending-stop, ascending-low, ascending-end}
+use Rattle.bodies.proofs.FieldLaws.{Top, mask-in, mask-high, clause-first, clause-second, clause-bad, clause-in}
+
+-- ---- numbers that ascend
+
+-- the items from number i on, at place p, say what all of them say
+abbrev pub AscendingLeft : (ℕ → Result ℕ) → ℕ → ℕ → ℕ → ℕ → ℕ → Type 0
+AscendingLeft read size count low p i = forget (ascending read size low p (count - i)) ≡ forget (ascending read size 0 0 count)
+
+module _ (read : ℕ → Result ℕ) (size count start : ℕ) where
+  pub numbers-start : AscendingLeft read size count 0 0 0
+  numbers-start = none-yet (λ (k : ℕ). forget (ascending read size 0 0 k)) count
+
+  module _ (i low p : ℕ) (left : AscendingLeft read size count low p i) where
+    pub numbers-end : count ≤ i → Fine ≡ verdictFrom start (ascending read size 0 0 count)
+    numbers-end h = from-fine start (ascending read size 0 0 count) (sym left ∙ ascending-end read size count i low p h)
+
+    module _ (h : i < count) where
+      pub number-bad : {r q : ℕ} → read p ≡ refuse r q → Refused r (start + q) ≡ verdictFrom start (ascending read size 0 0 count)
+      number-bad f = from-refused start (ascending read size 0 0 count) _ _ (sym left ∙ ascending-stop read size count i low p h f)
+
+      module _ {x : ℕ} (f : read p ≡ found x) where
+        pub number-low : x < low → Refused 7 (start + p) ≡ verdictFrom start (ascending read size 0 0 count)
+        number-low l = from-refused start (ascending read size 0 0 count) _ _ (sym left ∙ ascending-low read size count i low p h f (lt-leb low x l))
+
+        pub number-next : (low′ q : ℕ) → low ≤ x → p + size ≡ q → suc x ≡ low′ → AscendingLeft read size count low′ q (i + 1)
+        number-next low′ q l e e′ =
+            ap (λ (k : ℕ). forget (ascending read size k q (count - (i + 1)))) (sym e′)
+            ∙ sym (ascending-next read size count i low p q h e f (le-leb low x l))
+            ∙ left
+
+-- one more than the number before number i, where there is one
+abbrev pub lowAfter : ℕ → ℕ → ℕ
+lowAfter zero last = 0
+lowAfter (suc i) last = suc last
+
+pub low-next : (i x : ℕ) → suc x ≡ lowAfter (i + 1) x
+low-next i x = let e : suc i ≡ i + 1 = omega arith in ap (λ (k : ℕ). lowAfter k x) e
+
+pub low-fails : (i last x : ℕ) → (ltb 0 i && leb x last) ≡ true → x < lowAfter i last
+low-fails zero last x e = let z : _≡_ {A = ℕ} 0 1 = cc in absurd (omega arith)
+low-fails (suc i) last x e = omega (arith, leb-true x last (sym (ap (λ b. b && leb x last) (lt-ltb 0 (suc i) (omega arith))) ∙ e))
+
+pub low-holds : (i last x : ℕ) → (ltb 0 i && leb x last) ≡ false → lowAfter i last ≤ x
+low-holds zero last x e = omega arith
+low-holds (suc i) last x e = omega (arith, leb-false x last (sym (ap (λ b. b && leb x last) (lt-ltb 0 (suc i) (omega arith))) ∙ e))
+
+-- ---- clauses
+
+-- the clauses from number i on say what all of them say
+abbrev pub ClausesLeft : List ℕ → ℕ → Bool → ℕ → ℕ → Type 0
+ClausesLeft part n two count i = forget (items (clause part n (ruleOf two)) 16 (16 * i) (count - i)) ≡ forget (items (clause part n (ruleOf two)) 16 0 count)
+
+module _ (part : List ℕ) (n : ℕ) (two : Bool) (start : ℕ) where
+  abbrev R : ℕ → Result Clause
+  R = clause part n (ruleOf two)
+
+  abbrev count : ℕ
+  count = length part / 16
+
+  pub clauses-start : ClausesLeft part n two count 0
+  clauses-start = none-yet (λ (k : ℕ). forget (items R 16 0 k)) count
+
+  module _ (i : ℕ) (left : ClausesLeft part n two count i) where
+    pub clauses-end : count ≤ i → Fine ≡ verdictFrom start (items R 16 0 count)
+    clauses-end h = from-fine start (items R 16 0 count) (sym left ∙ items-end R 16 count i (16 * i) h)
+
+    module _ (h : i < count) (top : ℕ) (t : Top top n) {a : ℕ} (e : a ≡ numberAt 8 part (16 * i)) (w : a < 2 ^ 64) where
+      stop : {r q : ℕ} → R (16 * i) ≡ refuse r q → Refused r (start + q) ≡ verdictFrom start (items R 16 0 count)
+      stop f = from-refused start (items R 16 0 count) _ _ (sym left ∙ items-stop R 16 count i (16 * i) h f)
+
+      pub clause-positive : top < a → Refused 5 (start + 16 * i) ≡ verdictFrom start (items R 16 0 count)
+      clause-positive g = stop (clause-first part (16 * i) n (ruleOf two) (mask-high part (16 * i) top n t e w (omega arith) g))
+
+      module _ (g : a ≤ top) {b : ℕ} (e′ : b ≡ numberAt 8 part (16 * i + 8)) (w′ : b < 2 ^ 64) where
+        first : mask part n (16 * i) ≡ found a
+        first = mask-in part (16 * i) top n t e w (omega arith) g
+
+        pub clause-negative : top < b → Refused 5 (start + 16 * i + 8) ≡ verdictFrom start (items R 16 0 count)
+        clause-negative g′ =
+            ap (λ (p : ℕ). Refused 5 p) (omega arith)
+            ∙ stop (clause-second part (16 * i) n (ruleOf two) first (mask-high part (16 * i + 8) top n t e′ w′ (omega arith) g′))
+
+        module _ (g′ : b ≤ top) {r : Bool} (q : r ≡ ruleOf two a b) where
+          second : mask part n (16 * i + 8) ≡ found b
+          second = mask-in part (16 * i + 8) top n t e′ w′ (omega arith) g′
+
+          pub clause-rule : not r ≡ true → Refused 7 (start + 16 * i) ≡ verdictFrom start (items R 16 0 count)
+          clause-rule s = stop (clause-bad part (16 * i) n (ruleOf two) first second (sym q ∙ not-true r s))
+
+          pub clause-next : not r ≡ false → ClausesLeft part n two count (i + 1)
+          clause-next s =
+              sym (items-next R 16 count i (16 * i) (16 * (i + 1)) h (omega arith) (clause-in part (16 * i) n (ruleOf two) first second (sym q ∙ not-false r s)))
+              ∙ left
+
+-- ---- a form that is known
+
+module _ {f g : Form} (e : f ≡ g) where
+  pub form-fits : (len : ℕ) → formFits f len ≡ true → formFits g len ≡ true
+  form-fits len t = ap (λ (h : Form). formFits h len) (sym e) ∙ t
+
+  pub form-says : (part : List ℕ) (n start : ℕ) {v : Verdict} → v ≡ verdictFrom start (formBody part n g 0 (length part))
+      → v ≡ verdictFrom start (formBody part n f 0 (length part))
+  form-says part n start y = y ∙ ap (λ (h : Form). verdictFrom start (formBody part n h 0 (length part))) (sym e)

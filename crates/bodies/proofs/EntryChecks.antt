@@ -1,0 +1,108 @@
+-- What an entry says, test by test.
+-- Assumes nothing.
+use mathlib.Core.Path.{_≡_, sym, ap, _∙_}
+use mathlib.Core.Option.{Option, none, some}
+use Prim.Native.Nat.{ℕ, _+_, _-_, _≤_, _<_}
+use native.Mathlib.Omega.{arith}
+use mathlib.Core.Bool.{Bool, true, false, not}
+use mathlib.Core.List.{List}
+use lib.ListN.{length, take, drop, getElem?}
+use borrow.Author.Tests.{le-leb, lt-leb, not-true, not-false}
+use Rattle.bodies.specs.declared.Form.{Form}
+use Rattle.bodies.specs.declared.Verdict.{Verdict}
+use Rattle.bodies.specs.declared.Verdict.the-variants.{Refused}
+use Rattle.meaning.specs.Result.{Result, refuse, found, _>>=_, known}
+use Rattle.meaning.specs.Bytes.{number, inside}
+use Rattle.certificate.specs.Views.{numberAt}
+use Rattle.meaning.specs.Layout.{Kind, field, entry}
+use Rattle.bodies.specs.Verdicts.{verdict, verdictFrom, formKnown, formFits, formBody, formAt}
+use Rattle.certificate.proofs.ByteLaws.{inside-out, number-in}
+use Rattle.bodies.proofs.Verdicts.{forget, told, told-refused, goes-on, stops, passed, failed}
+use Rattle.bodies.proofs.FieldLaws.{field-in}
+use Rattle.bodies.proofs.FormLaws.{Same, Alike, no-kind, kind-of}
+use Rattle.bodies.proofs.PartLaws.{part-length, part-says}
+
+no-known : {A B : Type 0} {o : Option A} (n p : ℕ) (g : A → Result B) → o ≡ none → (known o n p >>= g) ≡ refuse n p
+unfolding known _>>=_
+no-known n p g e = ap (λ o. known o n p >>= g) e
+
+is-known : {A B : Type 0} {o : Option A} {a : A} (n p : ℕ) (g : A → Result B) → o ≡ some a → (known o n p >>= g) ≡ g a
+unfolding known _>>=_
+is-known n p g e = ap (λ o. known o n p >>= g) e
+
+module _ (bytes : List ℕ) (n : ℕ) {A : Type 0} (kinds : List (Kind A)) (forms : List Form) (alike : Alike bytes n kinds forms) (p : ℕ) where
+  refused : {r q : ℕ} → entry bytes kinds p ≡ refuse r q → Refused r q ≡ verdict (entry bytes kinds p)
+  refused e = told-refused (entry bytes kinds p) _ _ (ap forget e)
+
+  module _ {t : Bool} (q : t ≡ inside 2 bytes p) where
+    pub entry-cut : not t ≡ true → Refused 3 p ≡ verdict (entry bytes kinds p)
+    unfolding entry field
+    entry-cut s = refused (stops _ (failed 3 p _ (sym q ∙ not-true t s)))
+
+    module _ (s : not t ≡ false) {len : ℕ} (e : len ≡ numberAt 2 bytes p) {u : Bool} (q′ : u ≡ inside (2 + len) bytes p) where
+      len-read : field bytes 2 p ≡ found len
+      len-read = field-in bytes p 2 (inside-out 2 bytes p (sym q ∙ not-false t s)) e
+
+      pub entry-past : not u ≡ true → Refused 3 p ≡ verdict (entry bytes kinds p)
+      unfolding entry
+      entry-past s′ = refused (goes-on _ len-read ∙ failed 3 p _ (sym q′ ∙ not-true u s′))
+
+      module _ (s′ : not u ≡ false) where
+        pub entry-ends : p + (2 + len) ≤ length bytes
+        entry-ends = inside-out (2 + len) bytes p (sym q′ ∙ not-false u s′)
+
+        pub entry-none : len < 1 → Refused 4 p ≡ verdict (entry bytes kinds p)
+        unfolding entry
+        entry-none l = refused (goes-on _ len-read ∙ passed 3 p _ (sym q′ ∙ not-false u s′) ∙ failed 4 p _ (lt-leb 1 len l))
+
+        module _ (l : 1 ≤ len) {k : ℕ} (e′ : k ≡ numberAt 1 bytes (p + 2)) {f : Form} (ef : f ≡ formAt forms k) {v : Bool} (qv : v ≡ formKnown f) where
+          kind-read : formAt forms (number 1 bytes (p + 2)) ≡ f
+          kind-read = ap (formAt forms) (sym (e′ ∙ number-in 1 bytes (p + 2) (let h = entry-ends in omega arith))) ∙ sym ef
+
+          pub entry-unknown : not v ≡ true → Refused 4 (p + 2) ≡ verdict (entry bytes kinds p)
+          unfolding entry
+          entry-unknown x =
+              refused
+              (goes-on _ len-read ∙ passed 3 p _ (sym q′ ∙ not-false u s′) ∙ passed 4 p _ (le-leb 1 len l)
+              ∙ no-known 4 (p + 2) _ (no-kind bytes n kinds forms alike (number 1 bytes (p + 2)) (ap formKnown kind-read ∙ sym qv ∙ not-true v x)))
+
+          module _ (x : not v ≡ false) {w : Bool} (qw : w ≡ formFits f (len - 1)) where
+            the-kind : (k : Kind A) × (getElem? kinds (number 1 bytes (p + 2)) ≡ some k) × Same bytes n k (formAt forms (number 1 bytes (p + 2)))
+            the-kind = kind-of bytes n kinds forms alike (number 1 bytes (p + 2)) (ap formKnown kind-read ∙ sym qv ∙ not-false v x)
+
+            fits-same : the-kind .0 .fits (len - 1) ≡ w
+            fits-same = the-kind .2 .fits (len - 1) ∙ ap (λ (g : Form). formFits g (len - 1)) kind-read ∙ sym qw
+
+            pub entry-unfit : not w ≡ true → Refused 4 p ≡ verdict (entry bytes kinds p)
+            unfolding entry
+            entry-unfit y =
+                refused
+                (goes-on _ len-read ∙ passed 3 p _ (sym q′ ∙ not-false u s′) ∙ passed 4 p _ (le-leb 1 len l)
+                ∙ is-known 4 (p + 2) _ (the-kind .1) ∙ failed 4 p _ (fits-same ∙ not-true w y))
+
+            entry-is : not w ≡ false → entry bytes kinds p ≡ the-kind .0 .body (p + 3) (len - 1)
+            unfolding entry
+            entry-is y =
+                goes-on _ len-read ∙ passed 3 p _ (sym q′ ∙ not-false u s′) ∙ passed 4 p _ (le-leb 1 len l)
+                ∙ is-known 4 (p + 2) _ (the-kind .1) ∙ passed 4 p _ (fits-same ∙ not-false w y)
+
+            -- it lies in a file of that length, and fits its form
+            pub entry-part : not w ≡ false → (size most : ℕ) → size ≡ len - 1 → length bytes ≤ most
+                → (p + 3 + length (take size (drop (p + 3) bytes)) ≤ most) × (formFits f (length (take size (drop (p + 3) bytes))) ≡ true)
+            entry-part y size most z m =
+                let h = entry-ends in
+                let e″ : length (take size (drop (p + 3) bytes)) ≡ size = part-length bytes (p + 3) size (omega arith) in
+                (omega arith, ap (formFits f) (e″ ∙ z) ∙ sym qw ∙ not-false w y)
+
+            -- the body, as a part of the file from place p + 3 to the entry's end
+            pub entry-body : not w ≡ false → (size : ℕ) → size ≡ len - 1
+                → {r : Verdict} → r ≡ verdictFrom (p + 3) (formBody (take size (drop (p + 3) bytes)) n f 0 (length (take size (drop (p + 3) bytes))))
+                → r ≡ verdict (entry bytes kinds p)
+            entry-body y size z r =
+                let h = entry-ends in
+                r
+                ∙ part-says bytes (p + 3) size (omega arith) n f (ap (formFits f) z ∙ sym qw ∙ not-false w y)
+                ∙ ap (λ (j : ℕ). verdict (formBody bytes n f (p + 3) j)) z
+                ∙ ap (λ (g : Form). verdict (formBody bytes n g (p + 3) (len - 1))) (sym kind-read)
+                ∙ told (formBody bytes n (formAt forms (number 1 bytes (p + 2))) (p + 3) (len - 1)) (the-kind .0 .body (p + 3) (len - 1)) (sym (the-kind .2 .body (p + 3) (len - 1)))
+                ∙ ap verdict (sym (entry-is y))

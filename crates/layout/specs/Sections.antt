@@ -1,0 +1,49 @@
+-- Sections of a file as the code reads them, and what follows the actions.
+-- Assumes nothing.
+use Prim.Native.Nat.{ℕ, _+_, _*_}
+use mathlib.Core.Bool.{true, false}
+use mathlib.Core.List.{List}
+use lib.ListN.{length}
+use lib.Dec.{leb}
+use Rattle.layout.specs.declared.Walk.{Walk}
+use Rattle.layout.specs.declared.Walk.the-variants.{After, Refused as Stopped}
+use Rattle.layout.specs.declared.Rest.{Rest}
+use Rattle.layout.specs.declared.Rest.the-variants.{After as Both, Refused as Ended}
+use Rattle.bodies.specs.declared.Section.{Section}
+use Rattle.meaning.specs.Result.{Result, refuse, found, _>>=_, need}
+use Rattle.certificate.specs.Views.{numberAt}
+use Rattle.meaning.specs.File.{Step}
+use Rattle.meaning.specs.Layout.{items, count, step, entries}
+use Rattle.bodies.specs.Verdicts.{setsOf}
+
+-- a reading of entries one after the other, as the place after them
+abbrev pub walk : {A : Type 0} → Result (A × ℕ) → Walk
+walk (refuse r p) = Stopped r p
+walk (found x) = After (x .1)
+
+-- the same of what follows the actions, with two places
+abbrev pub rest : Result (ℕ × ℕ) → Rest
+rest (refuse r p) = Ended r p
+rest (found x) = Both (x .0) (x .1)
+
+-- a section: its count, its entries, and the place after them
+unfoldable pub sectionAt : (bytes : List ℕ) (s : Section) → ℕ → ℕ → Result (List (setsOf bytes s .Item) × ℕ)
+sectionAt bytes s high p = do
+  c ← count bytes 0 high p
+  entries bytes (setsOf bytes s .kinds) 0 (p + 2) c
+
+-- the steps, and that nothing follows them
+unfoldable pub stepsAt : List ℕ → ℕ → Result (List Step)
+stepsAt bytes p = do
+  k ← count bytes 1 2048 p
+  ks ← items (step bytes) 12 (p + 2) k
+  _ ← need (leb (length bytes) (p + 2 + 12 * k)) 3 (p + 2 + 12 * k)
+  found ks
+
+-- all of it, for n facts and m actions: the places after the action sets and after the state sets
+unfoldable pub restAt : List ℕ → ℕ → ℕ → Result (ℕ × ℕ)
+restAt bytes n m = do
+  es ← sectionAt bytes (record { states = false; facts = n; others = m }) 256 (24 + 24 * m)
+  ss ← sectionAt bytes (record { states = true; facts = n; others = numberAt 2 bytes (24 + 24 * m) }) 512 (es .1)
+  _ ← stepsAt bytes (ss .1)
+  found (es .1, ss .1)
