@@ -17,7 +17,8 @@ abbrev pub NoneOf : ℕ → ℕ → ℕ → Type 0
 NoneOf from zero k = Unit {0}
 NoneOf from (suc n) k = NoneOf from n k × (k ≡ from + n → ⊥)
 
-beyond : (from n k : ℕ) → from ≤ k → NoneOf from n k → from + n ≤ k
+-- and not below them
+pub beyond : (from n k : ℕ) → from ≤ k → NoneOf from n k → from + n ≤ k
 beyond from zero k h r = omega arith
 beyond from (suc n) k h r = let l = beyond from n k h (r .0) in let q = r .1 in omega arith
 

@@ -1,47 +1,21 @@
 -- A `match` on a rule's number: the arm of a rule, which reads as many premises as the rule has, and the arm that no rule is left for.
 -- Assumes nothing.
-use mathlib.Core.Path.{_≡_, refl, ap, _∙_}
-use Prim.Native.Nat.{ℕ, zero, suc, _+_, _≤_, _<_}
+use mathlib.Core.Path.{_≡_, refl, sym, ap, _∙_}
+use Prim.Native.Nat.{ℕ, suc, _-_, _≤_}
 use native.Mathlib.Omega.{arith}
 use mathlib.Core.Bool.{Bool, true}
-use mathlib.Core.List.{List, [], _∷_, _++_}
+use mathlib.Core.List.{List, [], _∷_}
 use lib.Dec.{ltb}
 use lib.ListN.{length}
 use borrow.Author.Tests.{lt-ltb}
 use Rattle.certificate.specs.declared.Judgement.{Judgement}
 use Rattle.meaning.specs.File.{File}
-use Rattle.certificate.proofs.TableLaws.{NoneOf}
+use Rattle.certificate.proofs.TableLaws.{NoneOf, beyond}
 use Rattle.meaning.specs.Rules.{Pattern, Rule, _⊢_}
-use Rattle.meaning.specs.Match.{Letters, matchStep}
+use Rattle.meaning.specs.Match.{Letters, noLetters, matchStep}
 use Rattle.meaning.specs.Step.{derivation, premiseCount}
 use Rattle.rules.specs.Derives.{isSome, ruleNumbered, saying, matchSaid, follows}
 use Rattle.rules.proofs.Saying.{then-same}
-
--- there are as many judgements as the patterns ask for
-abbrev Enough : List Pattern → List Judgement → Type 0
-Enough [] js = Unit {0}
-Enough (p ∷ ps) [] = ⊥
-Enough (p ∷ ps) (j ∷ js) = Enough ps js
-
-abbrev pub EnoughFor : Rule → List Judgement → Type 0
-EnoughFor (ps ⊢ c) js = Enough ps js
-
-module _ (f : File) where
-  more-premises : (ps : List Pattern) (js ks : List Judgement) (σ : Letters) → Enough ps js → matchSaid f ps js σ ≡ matchSaid f ps (js ++ ks) σ
-  unfolding matchSaid
-  more-premises [] js ks σ h = refl
-  more-premises (p ∷ ps) [] ks σ h = absurd h
-  more-premises (p ∷ ps) (j ∷ js) ks σ h = then-same _ _ _ _ refl (λ τ. more-premises ps js ks τ h)
-
-  -- more judgements than a rule has premises change nothing
-  more : (r : Rule) (j : Judgement) (js ks : List Judgement) → EnoughFor r js → follows f r j js ≡ follows f r j (js ++ ks)
-  unfolding follows
-  more (ps ⊢ c) j js ks h = ap isSome (then-same _ _ _ _ refl (λ τ. more-premises ps js ks τ h))
-
-  -- rule n's arm
-  pub arm : (n : ℕ) {rule : ℕ} (j : Judgement) (js ks : List Judgement) {b : Bool} → rule ≡ n → EnoughFor (ruleNumbered n) js → b ≡ follows f (ruleNumbered n) j js
-      → b ≡ follows f (ruleNumbered rule) j (js ++ ks)
-  arm n j js ks e h q = rw e (q ∙ more (ruleNumbered n) j js ks h)
 
 -- the judgements are the same as far as there are patterns
 abbrev Alike : List Pattern → List Judgement → List Judgement → Type 0
@@ -50,6 +24,9 @@ Alike (p ∷ ps) [] [] = Unit {0}
 Alike (p ∷ ps) [] (k ∷ ks) = ⊥
 Alike (p ∷ ps) (j ∷ js) [] = ⊥
 Alike (p ∷ ps) (j ∷ js) (k ∷ ks) = (j ≡ k) × Alike ps js ks
+
+abbrev pub AlikeFor : Rule → List Judgement → List Judgement → Type 0
+AlikeFor (ps ⊢ c) js ks = Alike ps js ks
 
 alike : (ps : List Pattern) {p p′ q q′ o o′ : Judgement} → (ltb 0 (length ps) ≡ true → p ≡ p′) → (ltb 1 (length ps) ≡ true → q ≡ q′)
     → (ltb 2 (length ps) ≡ true → o ≡ o′) → Alike ps (p ∷ q ∷ o ∷ []) (p′ ∷ q′ ∷ o′ ∷ [])
@@ -71,21 +48,24 @@ module _ (f : File) where
   alike-said (p ∷ ps) (j ∷ js) (k ∷ ks) σ h =
       then-same _ _ _ _ (ap (λ (x : Judgement). matchStep f p (saying x) σ) (h .0)) (λ τ. alike-said ps js ks τ (h .1))
 
+  -- the same judgement follows from them
+  follows-alike : (r : Rule) {j j′ : Judgement} (js ks : List Judgement) → j ≡ j′ → AlikeFor r js ks → follows f r j js ≡ follows f r j′ ks
+  unfolding follows
+  follows-alike (ps ⊢ c) js ks e h =
+      ap isSome (then-same _ _ _ _ (ap (λ (x : Judgement). matchStep f c (saying x) noLetters) e) (λ τ. alike-said ps js ks τ h))
+
   -- premises that a rule does not have may be anything
   pub read-premises : (r : Rule) {n : ℕ} (j : Judgement) {p p′ q q′ o o′ : Judgement} → n ≡ premiseCount (derivation r) → (ltb 0 n ≡ true → p ≡ p′)
       → (ltb 1 n ≡ true → q ≡ q′) → (ltb 2 n ≡ true → o ≡ o′) → follows f r j (p ∷ q ∷ o ∷ []) ≡ follows f r j (p′ ∷ q′ ∷ o′ ∷ [])
-  unfolding follows premiseCount
+  unfolding premiseCount
   read-premises (ps ⊢ c) j e h k l =
-      ap isSome
-      (then-same _ _ _ _ refl
-      (λ τ. alike-said ps _ _ τ
-      (alike ps (λ t. h (ap (ltb 0) e ∙ t)) (λ t. k (ap (ltb 1) e ∙ t)) (λ t. l (ap (ltb 2) e ∙ t)))))
+      follows-alike (ps ⊢ c) _ _ refl (alike ps (λ t. h (ap (ltb 0) e ∙ t)) (λ t. k (ap (ltb 1) e ∙ t)) (λ t. l (ap (ltb 2) e ∙ t)))
 
--- k is none of the n numbers from `from` on, and not below them
-beyond : (from n k : ℕ) → from ≤ k → NoneOf from n k → from + n ≤ k
-beyond from zero k h r = omega arith
-beyond from (suc n) k h r = let l = beyond from n k h (r .0) in let q = r .1 in omega arith
+  -- rule n's arm: what was found of the judgements taken apart holds of them whole, and of more than the rule has premises
+  pub arm : (n : ℕ) {rule : ℕ} {j j′ : Judgement} (js ks : List Judgement) {b : Bool} → rule ≡ n → b ≡ follows f (ruleNumbered n) j′ ks → j ≡ j′
+      → AlikeFor (ruleNumbered n) js ks → b ≡ follows f (ruleNumbered rule) j js
+  arm n js ks e q h t = rw e (q ∙ sym (follows-alike (ruleNumbered n) js ks h t))
 
 -- the arm that is left over
-pub no-arm : {X : Type 0} (from n k : ℕ) → from ≤ k → k < from + n → NoneOf from n k → X
-no-arm from n k lo hi r = let l = beyond from n k lo r in absurd (omega arith)
+pub no-arm : {X : Type 0} (from last k : ℕ) → (from ≤ k) × (k ≤ last) → NoneOf from (suc last - from) k → X
+no-arm from last k (lo, hi) r = let l = beyond from (suc last - from) k lo r in absurd (omega arith)

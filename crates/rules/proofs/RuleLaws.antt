@@ -1,24 +1,25 @@
--- How a rule's match computes: a chain of tests, one after the other. A judgement of another kind matches nothing.
+-- How a rule's match computes: a chain of tests, one after the other. A judgement of another kind matches nothing, also where only a range of the rule's number is known.
 -- Assumes nothing.
-use mathlib.Core.Path.{_≡_, refl, sym, ap, _∙_}
-use Prim.Native.Nat.{ℕ, zero, suc, _<_}
+use mathlib.Core.Path.{_≡_, refl, sym}
+use Prim.Native.Nat.{ℕ, zero, suc, _+_, _-_, _≤_, _<_}
+use native.Mathlib.Omega.{arith}
 use native.Mathlib.Nat.{not-suc-le-zero, le-of-suc-le-suc}
-use mathlib.Core.Bool.{Bool, true, false, not, _&&_}
+use mathlib.Core.Logic.{inl, inr}
+use mathlib.Core.Bool.{Bool, true, false, _&&_, _||_}
 use mathlib.Core.Option.{Option, none, some}
-use mathlib.Core.List.{List, [], _∷_, map}
-use lib.Dec.{T, eqb, ltb, ltb→lt, eqb→eq}
-use lib.ListN.{length, getD}
+use mathlib.Core.List.{List, [], _∷_}
+use lib.Dec.{T, eqb, eqb→eq}
+use lib.ListN.{getD}
 use denote.Enum.Declared.{tagOf}
 use types.Run.{OneOf}
-use mir.Val.{hasKey}
-use Rattle.task.proofs.Tests.{same}
+use Rattle.task.proofs.Tests.{both-ways, same, and-left, and-right, or-cases}
 use Rattle.certificate.specs.declared.Judgement.{Judgement}
 use Rattle.certificate.specs.declared.Judgement.the-variants.{Dead, Within, ActionsWithin, Unsolvable}
 use Rattle.meaning.specs.File.{File, actionKind, basicKind, stateKind, first, second, firstAction, secondAction}
 use Rattle.certificate.proofs.Judgement as judgements
 use Rattle.meaning.specs.Rules.{Rule, _⊢_, Pattern, rules, patternKind}
 use Rattle.meaning.specs.Match.{Letters, noLetters, _then_, given, withLetter, standsFor, ofKind, ofActionKind, matchᴬ, match, matchEntries, matchStep}
-use Rattle.rules.specs.Tests.{ofSort, naming, namingBoth, namingGoal, namingAll}
+use Rattle.rules.specs.Tests.{ofSort, naming, namingBoth, namingComplement, namingGoal, namingComplementGoal, namingAll}
 use Rattle.rules.specs.Derives.{isSome, ruleNumbered, kindSaid, leftSaid, rightSaid, saying, matchSaid, follows}
 use Rattle.rules.proofs.Views.{others, unlike}
 
@@ -55,18 +56,12 @@ pub and-swap : (a b c : Bool) → (a && (b && c)) ≡ (b && (a && c))
 and-swap true b c = refl
 and-swap false b c = sym (and-false b)
 
-pub move-last : (a b c d e : Bool) → (a && (b && (c && (d && e)))) ≡ (b && (c && (d && (a && e))))
-move-last true b c d e = refl
-move-last false b c d e = sym (ap (λ (t : Bool). b && (c && t)) (and-false d) ∙ ap (λ (t : Bool). b && t) (and-false c) ∙ and-false b)
-
-same-tests : (a b : Bool) → (T a → T b) → (T b → T a) → a ≡ b
-same-tests true true h k = refl
-same-tests true false h k = absurd (h tt)
-same-tests false true h k = absurd (k tt)
-same-tests false false h k = refl
+pub and-reverse : (a b c : Bool) → (a && (b && c)) ≡ (c && (b && a))
+and-reverse true b c = rw (and-true b) (and-comm b c)
+and-reverse false b c = simp and-false
 
 pub eqb-comm : (a b : ℕ) → eqb a b ≡ eqb b a
-eqb-comm a b = same-tests (eqb a b) (eqb b a) (λ t. same (sym (eqb→eq a b t))) (λ t. same (sym (eqb→eq b a t)))
+eqb-comm a b = both-ways (eqb a b) (eqb b a) (λ t. same (sym (eqb→eq a b t))) (λ t. same (sym (eqb→eq b a t)))
 
 -- a match of a rule, as its tests in turn
 pub ruleset chain = (some-given, then-assoc, and-assoc, and-true, and-false)
@@ -81,49 +76,78 @@ tag-said (ActionsWithin a b) = refl
 tag-said Unsolvable = refl
 
 -- a rule asks for kind k of its conclusion, i being 0, or of premise i, counted from 1
-abbrev pub Asks : Rule → ℕ → ℕ → Type 0
-Asks (ps ⊢ c) i k = T (ltb i (suc (length ps))) × T (eqb (getD (map patternKind (c ∷ ps)) i 4) k) × T (not (hasKey (others k 0 4) k))
+abbrev asked : List Pattern → ℕ → ℕ → Bool
+asked [] i k = false
+asked (p ∷ ps) zero k = eqb (patternKind p) k
+asked (p ∷ ps) (suc i) k = asked ps i k
+
+abbrev pub asks : Rule → ℕ → ℕ → Bool
+asks (ps ⊢ c) i k = asked (c ∷ ps) i k
 
 then-none : {X Y : Type 0} (o : Option X) (g : X → Option Y) → ((x : X) → g x ≡ none) → (o then g) ≡ none
 unfolding _then_
 then-none none g h = refl
 then-none (some x) g h = h x
 
-module _ (f : File) where
-  kind-unmatched : (p : Pattern) (j : Judgement) (σ : Letters) → eqb (kindSaid j) (patternKind p) ≡ false → matchStep f p (saying j) σ ≡ none
+module _ (f : File) (k : ℕ) where
+  kind-unmatched : (p : Pattern) (j : Judgement) (σ : Letters) → T (eqb (patternKind p) k) → eqb (kindSaid j) k ≡ false → matchStep f p (saying j) σ ≡ none
   unfolding matchStep saying given _then_
-  kind-unmatched p j σ h = rw h
+  kind-unmatched p j σ t h = rw (eqb→eq (patternKind p) k t, h)
 
-  premise-unmatched : (i : ℕ) (ps : List Pattern) (js : List Judgement) (σ : Letters) → i < length ps
-      → eqb (kindSaid (getD js i Unsolvable)) (getD (map patternKind ps) i 4) ≡ false → matchSaid f ps js σ ≡ none
+  premise-unmatched : (i : ℕ) (ps : List Pattern) (js : List Judgement) (σ : Letters) → T (asked ps i k)
+      → eqb (kindSaid (getD js i Unsolvable)) k ≡ false → matchSaid f ps js σ ≡ none
   unfolding matchSaid _then_
-  premise-unmatched i [] js σ l h = absurd (not-suc-le-zero l)
-  premise-unmatched zero (p ∷ ps) [] σ l h = refl
-  premise-unmatched zero (p ∷ ps) (j ∷ js) σ l h = rw (kind-unmatched p j σ h)
-  premise-unmatched (suc i) (p ∷ ps) [] σ l h = refl
-  premise-unmatched (suc i) (p ∷ ps) (j ∷ js) σ l h =
-      then-none (matchStep f p (saying j) σ) (matchSaid f ps js) (λ τ. premise-unmatched i ps js τ (le-of-suc-le-suc l) h)
+  premise-unmatched i [] js σ t h = absurd t
+  premise-unmatched zero (p ∷ ps) [] σ t h = refl
+  premise-unmatched zero (p ∷ ps) (j ∷ js) σ t h = rw (kind-unmatched p j σ t h)
+  premise-unmatched (suc i) (p ∷ ps) [] σ t h = refl
+  premise-unmatched (suc i) (p ∷ ps) (j ∷ js) σ t h =
+      then-none (matchStep f p (saying j) σ) (matchSaid f ps js) (λ τ. premise-unmatched i ps js τ t h)
 
-  unmatched : (ps : List Pattern) (c : Pattern) (i : ℕ) (j : Judgement) (js : List Judgement) → i < suc (length ps)
-      → eqb (kindSaid (getD (j ∷ js) i Unsolvable)) (getD (map patternKind (c ∷ ps)) i 4) ≡ false → false ≡ follows f (ps ⊢ c) j js
+  unmatched : (r : Rule) (i : ℕ) (j : Judgement) (js : List Judgement) → T (asks r i k)
+      → eqb (kindSaid (getD (j ∷ js) i Unsolvable)) k ≡ false → false ≡ follows f r j js
   unfolding follows isSome _then_
-  unmatched ps c zero j js l h = rw (kind-unmatched c j noLetters h)
-  unmatched ps c (suc i) j js l h =
-      rw (then-none (matchStep f c (saying j) noLetters) (matchSaid f ps js) (λ τ. premise-unmatched i ps js τ (le-of-suc-le-suc l) h))
-
-  other-of : (r : Rule) (i k : ℕ) (j : Judgement) (js : List Judgement) → Asks r i k
-      → OneOf (others k 0 4) (tagOf judgements.the-type (getD (j ∷ js) i Unsolvable)) → false ≡ follows f r j js
-  other-of (ps ⊢ c) i k j js t h =
-      let e : getD (map patternKind (c ∷ ps)) i 4 ≡ k = eqb→eq _ k (t .1) in
-      let u : eqb (kindSaid (getD (j ∷ js) i Unsolvable)) k ≡ false =
-      unlike k (others k 0 4) _ (t .2) (rw (tag-said (getD (j ∷ js) i Unsolvable)) at h)
-      in
-      unmatched ps c i j js (ltb→lt i (suc (length ps)) (t .0)) (rw e u)
+  unmatched (ps ⊢ c) zero j js t h = rw (kind-unmatched c j noLetters t h)
+  unmatched (ps ⊢ c) (suc i) j js t h =
+      rw (then-none (matchStep f c (saying j) noLetters) (matchSaid f ps js) (λ τ. premise-unmatched i ps js τ t h))
 
 -- a step or premise of another judgement kind than the rule asks for
-pub other-said : (f : File) (n i k : ℕ) (j : Judgement) (js : List Judgement) → Asks (ruleNumbered n) i k
+pub other-said : (f : File) (n i k : ℕ) (j : Judgement) (js : List Judgement) → T (asks (ruleNumbered n) i k)
     → OneOf (others k 0 4) (tagOf judgements.the-type (getD (j ∷ js) i Unsolvable)) → false ≡ follows f (ruleNumbered n) j js
-other-said f n = other-of f (ruleNumbered n)
+other-said f n i k j js t h = unmatched f k (ruleNumbered n) i j js t (unlike k 0 4 _ (rw (tag-said (getD (j ∷ js) i Unsolvable)) at h))
+
+-- ---- a range of rules
+
+-- a test holds of each number below n
+abbrev pub each : (ℕ → Bool) → ℕ → Bool
+each t zero = true
+each t (suc n) = t 0 && each (λ k. t (suc k)) n
+
+each-at : (t : ℕ → Bool) (n k : ℕ) → T (each t n) → k < n → T (t k)
+each-at t zero k h l = absurd (not-suc-le-zero l)
+each-at t (suc n) zero h l = and-left (t 0) (each (λ k. t (suc k)) n) h
+each-at t (suc n) (suc k) h l = each-at (λ k. t (suc k)) n k (and-right (t 0) (each (λ k. t (suc k)) n) h) (le-of-suc-le-suc l)
+
+-- what holds of each number from `from` to `last` holds of one among them
+ranged : (t : ℕ → Bool) (from last k : ℕ) → T (each (λ m. t (from + m)) (suc last - from)) → (from ≤ k) × (k ≤ last) → T (t k)
+ranged t from last k h (lo, hi) =
+    let e : from + (k - from) ≡ k = omega arith in
+    rw e at (each-at (λ m. t (from + m)) (suc last - from) (k - from) h (omega arith))
+
+-- a step or premise of another judgement kind than each rule from `from` to `last` asks for
+pub other-among : (f : File) (from last i k : ℕ) {rule : ℕ} (j : Judgement) (js : List Judgement) → T (each (λ m. asks (ruleNumbered (from + m)) i k) (suc last - from))
+    → (from ≤ rule) × (rule ≤ last) → OneOf (others k 0 4) (tagOf judgements.the-type (getD (j ∷ js) i Unsolvable)) → false ≡ follows f (ruleNumbered rule) j js
+other-among f from last i k {rule} j js t h = other-said f rule i k j js (ranged (λ m. asks (ruleNumbered m) i k) from last rule t h)
+
+-- the same of these rules without rule x
+pub other-but : (f : File) (from last x i k : ℕ) {rule : ℕ} (j : Judgement) (js : List Judgement) → T (each (λ m. eqb (from + m) x || asks (ruleNumbered (from + m)) i k) (suc last - from))
+    → (from ≤ rule) × (rule ≤ last) → (rule ≡ x → ⊥) → OneOf (others k 0 4) (tagOf judgements.the-type (getD (j ∷ js) i Unsolvable)) → false ≡ follows f (ruleNumbered rule) j js
+other-but f from last x i k {rule} j js t h but =
+    other-said f rule i k j js
+    (elim (or-cases (eqb rule x) (asks (ruleNumbered rule) i k) (ranged (λ m. eqb m x || asks (ruleNumbered m) i k) from last rule t h)) [
+      | inl e ↦ absurd (but (eqb→eq rule x e))
+      | inr a ↦ a
+    ])
 
 -- `unfolding listed` opens the list of rules
 unfoldable pub listed : Unit {0}
@@ -132,5 +156,5 @@ listed = tt
 
 -- `unfolding opened` opens the rules, their matching and the tests
 unfoldable pub opened : Unit {0}
-unfolding actionKind basicKind stateKind first second firstAction secondAction rules patternKind noLetters _then_ given withLetter standsFor ofKind ofActionKind matchᴬ match matchEntries matchStep isSome ruleNumbered kindSaid leftSaid rightSaid saying matchSaid follows ofSort naming namingBoth namingGoal namingAll
+unfolding actionKind basicKind stateKind first second firstAction secondAction rules patternKind noLetters _then_ given withLetter standsFor ofKind ofActionKind matchᴬ match matchEntries matchStep isSome ruleNumbered kindSaid leftSaid rightSaid saying matchSaid follows ofSort naming namingBoth namingComplement namingGoal namingComplementGoal namingAll
 opened = tt

@@ -2,7 +2,7 @@
 -- Assumes nothing.
 use Prim.Native.Nat.{ℕ, zero, suc}
 use mathlib.Core.Path.{_≡_, refl, sym, ap, subst, _∙_}
-use mathlib.Core.Bool.{true, false, not}
+use mathlib.Core.Bool.{Bool, true, false, not}
 use mathlib.Core.List.{List, [], _∷_}
 use lib.Dec.{T, eqb}
 use borrow.Author.Tests.{ne-eqb}
@@ -23,9 +23,18 @@ abbrev pub others : ℕ → ℕ → ℕ → List ℕ
 others k i zero = []
 others k i (suc n) = elim (eqb i k) [ true ↦ others k (suc i) n | false ↦ i ∷ others k (suc i) n ]
 
+-- k is not among them
+lacks-here : (b : Bool) (k i : ℕ) (ks : List ℕ) → eqb i k ≡ b → T (not (hasKey ks k)) → T (not (hasKey (elim b [ true ↦ ks | false ↦ i ∷ ks ]) k))
+lacks-here true k i ks e h = h
+lacks-here false k i ks e h = rw e h
+
+lacks : (k i n : ℕ) → T (not (hasKey (others k i n) k))
+lacks k i zero = tt
+lacks k i (suc n) = lacks-here (eqb i k) k i (others k (suc i) n) refl (lacks k (suc i) n)
+
 -- a number among others than k is not k
-pub unlike : (k : ℕ) (ks : List ℕ) (x : ℕ) → T (not (hasKey ks k)) → OneOf ks x → eqb x k ≡ false
-unlike k ks x t h = ne-eqb x k (λ q. miss ks k t (subst (OneOf ks) q h))
+pub unlike : (k i n x : ℕ) → OneOf (others k i n) x → eqb x k ≡ false
+unlike k i n x h = ne-eqb x k (λ q. miss (others k i n) k (lacks k i n) (subst (OneOf (others k i n)) q h))
 
 -- ---- state sets
 
@@ -67,8 +76,8 @@ module _ (p : ℕ) (v : StateSet) {r : StateEntry} (q : r ≡ viewOf p v) where
   taken h = subst (Is v) (sym q ∙ h) (view-is p v .0)
 
   -- any other case than that of kind k
-  pub other : (k : ℕ) → T (not (hasKey (others k 0 11) k)) → OneOf (others k 0 11) (tagOf states.the-type r) → eqb (stateKind v) k ≡ false
-  other k t h = unlike k (others k 0 11) (stateKind v) t (subst (OneOf (others k 0 11)) (ap (tagOf states.the-type) q ∙ sym (view-is p v .1)) h)
+  pub other : (k : ℕ) → OneOf (others k 0 11) (tagOf states.the-type r) → eqb (stateKind v) k ≡ false
+  other k h = unlike k 0 11 (stateKind v) (subst (OneOf (others k 0 11)) (ap (tagOf states.the-type) q ∙ sym (view-is p v .1)) h)
 
 -- ---- action sets
 
@@ -87,5 +96,5 @@ module _ (p : ℕ) (v : ActionSet) {r : ActionEntry} (q : r ≡ viewOfActions p 
   pub takenᴬ : {e : ActionEntry} → r ≡ e → Isᴬ v e
   takenᴬ h = subst (Isᴬ v) (sym q ∙ h) (view-isᴬ p v .0)
 
-  pub otherᴬ : (k : ℕ) → T (not (hasKey (others k 0 3) k)) → OneOf (others k 0 3) (tagOf actions.the-type r) → eqb (actionKind v) k ≡ false
-  otherᴬ k t h = unlike k (others k 0 3) (actionKind v) t (subst (OneOf (others k 0 3)) (ap (tagOf actions.the-type) q ∙ sym (view-isᴬ p v .1)) h)
+  pub otherᴬ : (k : ℕ) → OneOf (others k 0 3) (tagOf actions.the-type r) → eqb (actionKind v) k ≡ false
+  otherᴬ k h = unlike k 0 3 (actionKind v) (subst (OneOf (others k 0 3)) (ap (tagOf actions.the-type) q ∙ sym (view-isᴬ p v .1)) h)

@@ -1,98 +1,76 @@
--- The rules 15 to 28, as the tests that the code makes of the entries that it took apart.
+-- The rules of 15 to 28 whose code tests entries by name, as these tests. The others look at one entry at most, and their proofs say it themselves.
 -- Assumes nothing.
 use Prim.Native.Nat.{ℕ}
-use mathlib.Core.Path.{_≡_}
-use mathlib.Core.Bool.{_&&_}
+use mathlib.Core.Path.{_≡_, _∙_}
+use mathlib.Core.Bool.{false, _&&_}
 use mathlib.Core.List.{[], _∷_}
 use lib.Dec.{eqb}
-use Rattle.certificate.specs.declared.Judgement.{Judgement}
 use Rattle.certificate.specs.declared.Judgement.the-variants.{Within, ActionsWithin}
-use Rattle.meaning.specs.File.{either, complement, intersection, union, progression, regression, File, actionSetAt, stateSetAt, first, second}
-use Rattle.rules.specs.Tests.{ofSort, naming, namingBoth}
+use Rattle.meaning.specs.File.{either, intersection, union, progression, regression, File, actionSetAt, stateSetAt, first, second}
+use Rattle.rules.specs.Tests.{ofSort, naming, namingBoth, namingComplement}
 use Rattle.rules.specs.Derives.{ruleNumbered, follows}
-use Rattle.rules.proofs.RuleLaws.{and-comm, and-swap, move-last, eqb-comm, chain, opened}
+use Rattle.rules.proofs.RuleLaws.{and-comm, and-swap, and-reverse, eqb-comm, chain, opened}
 
 module _ (f : File) where
-  -- 15 UR: S<S+U
-  pub ur : {j : Judgement} {s e x i : ℕ} → j ≡ Within s e → stateSetAt f e ≡ union x i
-      → eqb x s ≡ follows f (ruleNumbered 15) j []
-  unfolding opened
-  ur hj h1 = simp (hj, h1, chain)
-
-  -- 16 UL: S<U+S
-  pub ul : {j : Judgement} {s e i x : ℕ} → j ≡ Within s e → stateSetAt f e ≡ union i x
-      → eqb x s ≡ follows f (ruleNumbered 16) j []
-  unfolding opened
-  ul hj h1 = simp (hj, h1, chain)
-
-  -- 17 IR: S&U<S
-  pub ir : {j : Judgement} {e x s i : ℕ} → j ≡ Within e x → stateSetAt f e ≡ intersection s i
-      → eqb x s ≡ follows f (ruleNumbered 17) j []
-  unfolding opened
-  ir hj h1 = simp (hj, h1, chain)
-
-  -- 18 IL: U&S<S
-  pub il : {j : Judgement} {e x i s : ℕ} → j ≡ Within e x → stateSetAt f e ≡ intersection i s
-      → eqb x s ≡ follows f (ruleNumbered 18) j []
-  unfolding opened
-  il hj h1 = simp (hj, h1, chain)
-
   -- 19 DI: (S+U)&W<(S&W)+(U&W)
-  pub di : {j : Judgement} {l r e w s u x y : ℕ} → j ≡ Within l r → stateSetAt f l ≡ intersection e w → stateSetAt f e ≡ union s u → stateSetAt f r ≡ union x y
-      → (namingBoth f 7 x s w && namingBoth f 7 y u w) ≡ follows f (ruleNumbered 19) j []
+  pub di : (l r e w s u x y : ℕ) → stateSetAt f l ≡ intersection e w → stateSetAt f e ≡ union s u → stateSetAt f r ≡ union x y
+      → (namingBoth f 7 x s w && namingBoth f 7 y u w) ≡ follows f (ruleNumbered 19) (Within l r) []
   unfolding opened
-  di hj h1 h2 h3 = simp (hj, h1, h2, h3, chain)
+  di l r e w s u x y h1 h2 h3 = simp (h1, h2, h3, chain)
+
+  -- the same where r is no union
+  pub di-none : (l r : ℕ) → ofSort f 8 r ≡ false → false ≡ follows f (ruleNumbered 19) (Within l r) []
+  unfolding opened
+  di-none l r h = simp (h, chain)
 
   -- 20 SU: S<W, U<W; S+U<W
-  pub su : {j p q : Judgement} {e w s x u y : ℕ} → j ≡ Within e w → p ≡ Within s x → q ≡ Within u y
-      → (namingBoth f 8 e s u && eqb x w && eqb y w) ≡ follows f (ruleNumbered 20) j (p ∷ q ∷ [])
+  pub su : (l r a b c d : ℕ) → (namingBoth f 8 l a c && eqb b r && eqb d r) ≡ follows f (ruleNumbered 20) (Within l r) (Within a b ∷ Within c d ∷ [])
   unfolding opened
-  su {e = e} {w = w} {s = s} {x = x} {u = u} {y = y} hj hp hq = simp (hj, hp, hq, eqb-comm s (first (stateSetAt f e)), eqb-comm u (second (stateSetAt f e)), and-swap (eqb x w) (eqb (second (stateSetAt f e)) u) (eqb y w), chain)
+  su l r a b c d = simp (eqb-comm a (first (stateSetAt f l)), eqb-comm c (second (stateSetAt f l)), and-swap (eqb b r) (eqb (second (stateSetAt f l)) c) (eqb d r), chain)
 
   -- 21 SI: S<U, S<W; S<U&W
-  pub si : {j p q : Judgement} {s e x u y w : ℕ} → j ≡ Within s e → p ≡ Within x u → q ≡ Within y w
-      → (namingBoth f 7 e u w && eqb x s && eqb y s) ≡ follows f (ruleNumbered 21) j (p ∷ q ∷ [])
+  pub si : (l r a b c d : ℕ) → (namingBoth f 7 r b d && eqb a l && eqb c l) ≡ follows f (ruleNumbered 21) (Within l r) (Within a b ∷ Within c d ∷ [])
   unfolding opened
-  si {s = s} {e = e} {x = x} {u = u} {y = y} {w = w} hj hp hq = simp (hj, hp, hq, eqb-comm u (first (stateSetAt f e)), eqb-comm w (second (stateSetAt f e)), and-comm (eqb y s) (eqb (second (stateSetAt f e)) w), and-swap (eqb x s) (eqb (second (stateSetAt f e)) w) (eqb y s), and-swap (eqb x s) (eqb (first (stateSetAt f e)) u) (eqb (second (stateSetAt f e)) w && eqb y s), chain)
-
-  -- 22 ST: S<U, U<W; S<W
-  pub st : {j p q : Judgement} {s w x u y z : ℕ} → j ≡ Within s w → p ≡ Within x u → q ≡ Within y z
-      → (eqb x s && eqb y u && eqb z w) ≡ follows f (ruleNumbered 22) j (p ∷ q ∷ [])
-  unfolding opened
-  st hj hp hq = simp (hj, hp, hq, chain)
+  si l r a b c d = simp (eqb-comm b (first (stateSetAt f r)), eqb-comm d (second (stateSetAt f r)), and-comm (eqb c l) (eqb (second (stateSetAt f r)) d), and-swap (eqb a l) (eqb (second (stateSetAt f r)) d) (eqb c l), and-swap (eqb a l) (eqb (first (stateSetAt f r)) b) (eqb (second (stateSetAt f r)) d && eqb c l), chain)
 
   -- 23 AT: S[A]<U, B within A; S[B]<U
-  pub at-fewer : {j p q : Judgement} {e u l v x y s b t a : ℕ} → j ≡ Within e u → p ≡ Within l v → q ≡ ActionsWithin x y → stateSetAt f e ≡ progression s b → stateSetAt f l ≡ progression t a
-      → (eqb t s && eqb v u && eqb x b && eqb y a) ≡ follows f (ruleNumbered 23) j (p ∷ q ∷ [])
+  pub at-fewer : (l r a b x y s n : ℕ) → stateSetAt f l ≡ progression s n
+      → (namingBoth f 9 a s y && eqb b r && eqb x n) ≡ follows f (ruleNumbered 23) (Within l r) (Within a b ∷ ActionsWithin x y ∷ [])
   unfolding opened
-  at-fewer hj hp hq h1 h2 = simp (hj, hp, hq, h1, h2, chain)
+  at-fewer l r a b x y s n h = simp (h, eqb-comm y (second (stateSetAt f a)), and-comm (eqb (second (stateSetAt f a)) y) (eqb b r && eqb x n), chain)
 
   -- 24 AU: S[A]<U, S[B]<U; S[A+B]<U
-  pub au : {j p q : Judgement} {e u l v m z s n a b : ℕ} → j ≡ Within e u → p ≡ Within l v → q ≡ Within m z → stateSetAt f e ≡ progression s n → actionSetAt f n ≡ either a b
-      → (namingBoth f 9 l s a && eqb v u && namingBoth f 9 m s b && eqb z u) ≡ follows f (ruleNumbered 24) j (p ∷ q ∷ [])
+  pub au : (l r a b c d s n x y : ℕ) → stateSetAt f l ≡ progression s n → actionSetAt f n ≡ either x y
+      → (namingBoth f 9 a s x && eqb b r && namingBoth f 9 c s y && eqb d r) ≡ follows f (ruleNumbered 24) (Within l r) (Within a b ∷ Within c d ∷ [])
   unfolding opened
-  au hj hp hq h1 h2 = simp (hj, hp, hq, h1, h2, chain)
+  au l r a b c d s n x y h1 h2 = simp (h1, h2, chain)
 
   -- 25 PT: S[A]<W, U<S; U[A]<W
-  pub pt : {j p q : Judgement} {e w l v y z u a s n : ℕ} → j ≡ Within e w → p ≡ Within l v → q ≡ Within y z → stateSetAt f e ≡ progression u a → stateSetAt f l ≡ progression s n
-      → (eqb n a && eqb v w && eqb y u && eqb z s) ≡ follows f (ruleNumbered 25) j (p ∷ q ∷ [])
+  pub pt : (l r a b c d u n : ℕ) → stateSetAt f l ≡ progression u n
+      → (namingBoth f 9 a d n && eqb b r && eqb c u) ≡ follows f (ruleNumbered 25) (Within l r) (Within a b ∷ Within c d ∷ [])
   unfolding opened
-  pt hj hp hq h1 h2 = simp (hj, hp, hq, h1, h2, chain)
+  pt l r a b c d u n h = simp (h, eqb-comm d (first (stateSetAt f a)), and-comm (eqb (first (stateSetAt f a)) d) (eqb (second (stateSetAt f a)) n && (eqb b r && eqb c u)), chain)
 
   -- 26 PU: S[A]<W, U[A]<W; (S+U)[A]<W
-  pub pu : {j p q : Judgement} {e w l v m z x a s u : ℕ} → j ≡ Within e w → p ≡ Within l v → q ≡ Within m z → stateSetAt f e ≡ progression x a → stateSetAt f x ≡ union s u
-      → (namingBoth f 9 l s a && eqb v w && namingBoth f 9 m u a && eqb z w) ≡ follows f (ruleNumbered 26) j (p ∷ q ∷ [])
+  pub pu : (l r a b c d e n s u : ℕ) → stateSetAt f l ≡ progression e n → stateSetAt f e ≡ union s u
+      → (namingBoth f 9 a s n && eqb b r && namingBoth f 9 c u n && eqb d r) ≡ follows f (ruleNumbered 26) (Within l r) (Within a b ∷ Within c d ∷ [])
   unfolding opened
-  pu hj hp hq h1 h2 = simp (hj, hp, hq, h1, h2, chain)
+  pu l r a b c d e n s u h1 h2 = simp (h1, h2, chain)
+
+  -- what PR and RP ask of the conclusion, in the order of the pattern
+  turned : (k l r b s n : ℕ) → (namingComplement f k l b n && naming f 6 r s)
+      ≡ (ofSort f k l && (ofSort f 6 (first (stateSetAt f l)) && (ofSort f 6 r && (eqb s (first (stateSetAt f r)) && (eqb n (second (stateSetAt f l)) && eqb b (first (stateSetAt f (first (stateSetAt f l)))))))))
+  unfolding opened
+  turned k l r b s n = simp (eqb-comm s (first (stateSetAt f r)), eqb-comm n (second (stateSetAt f l)), eqb-comm b (first (stateSetAt f (first (stateSetAt f l)))), and-reverse (eqb (first (stateSetAt f (first (stateSetAt f l)))) b) (eqb (second (stateSetAt f l)) n) (naming f 6 r s), chain)
 
   -- 27 PR: S[A]<U; [A]~U<~S
-  pub pr : {j p : Judgement} {e r l u x a s : ℕ} → j ≡ Within e r → p ≡ Within l u → stateSetAt f e ≡ regression x a → stateSetAt f r ≡ complement s
-      → (namingBoth f 9 l s a && naming f 6 x u) ≡ follows f (ruleNumbered 27) j (p ∷ [])
+  pub pr : (l r a b s n : ℕ) → stateSetAt f a ≡ progression s n
+      → (namingComplement f 10 l b n && naming f 6 r s) ≡ follows f (ruleNumbered 27) (Within l r) (Within a b ∷ [])
   unfolding opened
-  pr {l = l} {u = u} {x = x} {a = a} {s = s} hj hp h1 h2 = simp (hj, hp, h1, h2, eqb-comm u (first (stateSetAt f x)), move-last (ofSort f 6 x) (ofSort f 9 l) (eqb (first (stateSetAt f l)) s) (eqb (second (stateSetAt f l)) a) (eqb (first (stateSetAt f x)) u), chain)
+  pr l r a b s n h = turned 10 l r b s n ∙ simp (h, chain)
 
   -- 28 RP: [A]S<U; (~U)[A]<~S
-  pub rp : {j p : Judgement} {e r l u x a s : ℕ} → j ≡ Within e r → p ≡ Within l u → stateSetAt f e ≡ progression x a → stateSetAt f r ≡ complement s
-      → (namingBoth f 10 l s a && naming f 6 x u) ≡ follows f (ruleNumbered 28) j (p ∷ [])
+  pub rp : (l r a b s n : ℕ) → stateSetAt f a ≡ regression s n
+      → (namingComplement f 9 l b n && naming f 6 r s) ≡ follows f (ruleNumbered 28) (Within l r) (Within a b ∷ [])
   unfolding opened
-  rp {l = l} {u = u} {x = x} {a = a} {s = s} hj hp h1 h2 = simp (hj, hp, h1, h2, eqb-comm u (first (stateSetAt f x)), move-last (ofSort f 6 x) (ofSort f 10 l) (eqb (first (stateSetAt f l)) s) (eqb (second (stateSetAt f l)) a) (eqb (first (stateSetAt f x)) u), chain)
+  rp l r a b s n h = turned 9 l r b s n ∙ simp (h, chain)

@@ -18,9 +18,17 @@ module _ (f : File) where
   unfoldable pub namingBoth : ℕ → ℕ → ℕ → ℕ → Bool
   namingBoth k e x y = ofSort k e && (eqb (first (stateSetAt f e)) x && eqb (second (stateSetAt f e)) y)
 
+  -- and names the complement of x and then y
+  unfoldable pub namingComplement : ℕ → ℕ → ℕ → ℕ → Bool
+  namingComplement k e x y = ofSort k e && (naming 6 (first (stateSetAt f e)) x && eqb (second (stateSetAt f e)) y)
+
   -- an intersection of x and the forbidden states
   unfoldable pub namingGoal : ℕ → ℕ → Bool
   namingGoal e x = ofSort 7 e && (eqb (first (stateSetAt f e)) x && ofSort 2 (second (stateSetAt f e)))
+
+  -- and of the complement of x and the forbidden states
+  unfoldable pub namingComplementGoal : ℕ → ℕ → Bool
+  namingComplementGoal e x = ofSort 7 e && (naming 6 (first (stateSetAt f e)) x && ofSort 2 (second (stateSetAt f e)))
 
   -- of kind k, and names x and then a set of all actions, which is so by its kind
   unfoldable pub namingAll : ℕ → ℕ → ℕ → Bool

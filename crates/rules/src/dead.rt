@@ -1,8 +1,10 @@
-// The rules 6 to 14: a set is dead, or the task is unsolvable. Each rule takes the step's judgement and its premises' apart, and fails at another kind.
+// The rules 6 to 14: a set is dead, or the task is unsolvable. The step's judgement and the premises that rules share are taken apart once for each group of rules; another kind fails.
+// The step says that e is dead, and the first premises of SD, PG, PI, RG and RI that l is within r and that u is dead.
 use crate::entries::is_complement;
 use crate::entries::is_empty;
 use crate::entries::is_goal;
 use crate::entries::is_goal_part;
+use crate::entries::is_goal_part_of_complement;
 use crate::entries::is_init;
 use crate::entries::is_progression_of_all;
 use crate::entries::is_regression_of_all;
@@ -14,29 +16,17 @@ use certificate::StateEntry;
 use certificate::known::state_set;
 ghost use mathlib.Core.Path.{_≡_};
 ghost use Prim.Native.Nat.{_≤_};
-ghost use mathlib.Core.List.{[], _∷_};
+ghost use mathlib.Core.List.{List, [], _∷_};
+ghost use Rattle.certificate.specs.declared.Judgement.{Judgement};
+ghost use Rattle.certificate.specs.declared.Judgement.the-variants.{Dead, Within};
 ghost use Rattle.certificate.specs.Known.{Known, decoded};
 ghost use Rattle.rules.specs.Derives.{ruleNumbered, follows};
 
-// 6 ED: 0 dead.
-fn ed(file: &[u8], at: Places, index: &[u16; 768], j: Judgement) -> bool
-    requires { ⌜ Known (now file) at (now index) ⌝ }
-    ensures { λ r. ⌜ r ≡ follows (decoded (now (file .entry))) (ruleNumbered 6) j [] ⌝ }
-{
-    let Judgement::Dead(e) = j else {
-        return false;
-    };
-    is_empty(file, at, index, e)
-}
-
 // 7 UD: S dead, U dead; S+U dead.
-fn ud(file: &[u8], at: Places, index: &[u16; 768], j: Judgement, p: Judgement, q: Judgement) -> bool
+fn ud(file: &[u8], at: Places, index: &[u16; 768], e: u16, p: Judgement, q: Judgement) -> bool
     requires { ⌜ Known (now file) at (now index) ⌝ }
-    ensures { λ r. ⌜ r ≡ follows (decoded (now (file .entry))) (ruleNumbered 7) j (p ∷ q ∷ []) ⌝ }
+    ensures { λ ok. ⌜ ok ≡ follows (decoded (now (file .entry))) (ruleNumbered 7) (Dead e) (p ∷ q ∷ []) ⌝ }
 {
-    let Judgement::Dead(e) = j else {
-        return false;
-    };
     let Judgement::Dead(s) = p else {
         return false;
     };
@@ -47,20 +37,11 @@ fn ud(file: &[u8], at: Places, index: &[u16; 768], j: Judgement, p: Judgement, q
 }
 
 // 8 SD: S<U, U dead; S dead.
-fn sd(file: &[u8], at: Places, index: &[u16; 768], j: Judgement, p: Judgement, q: Judgement) -> bool
+fn sd(file: &[u8], at: Places, index: &[u16; 768], e: u16, l: u16, r: u16, u: u16) -> bool
     requires { ⌜ Known (now file) at (now index) ⌝ }
-    ensures { λ r. ⌜ r ≡ follows (decoded (now (file .entry))) (ruleNumbered 8) j (p ∷ q ∷ []) ⌝ }
+    ensures { λ ok. ⌜ ok ≡ follows (decoded (now (file .entry))) (ruleNumbered 8) (Dead e) (Within l r ∷ Dead u ∷ []) ⌝ }
 {
-    let Judgement::Dead(s) = j else {
-        return false;
-    };
-    let Judgement::Within(x, u) = p else {
-        return false;
-    };
-    let Judgement::Dead(y) = q else {
-        return false;
-    };
-    (x == s) & (y == u)
+    (l == e) & (u == r)
 }
 
 // 9 PG: S[T]<S+U, U dead, S&G dead; S dead.
@@ -68,29 +49,21 @@ fn pg(
     file: &[u8],
     at: Places,
     index: &[u16; 768],
-    j: Judgement,
-    p: Judgement,
-    q: Judgement,
+    e: u16,
+    l: u16,
+    r: u16,
+    u: u16,
     o: Judgement,
 ) -> bool
     requires { ⌜ Known (now file) at (now index) ⌝ }
-    ensures { λ r. ⌜ r ≡ follows (decoded (now (file .entry))) (ruleNumbered 9) j (p ∷ q ∷ o ∷ []) ⌝ }
+    ensures { λ ok. ⌜ ok ≡ follows (decoded (now (file .entry))) (ruleNumbered 9) (Dead e) (Within l r ∷ Dead u ∷ o ∷ []) ⌝ }
 {
-    let Judgement::Dead(s) = j else {
-        return false;
-    };
-    let Judgement::Within(l, r) = p else {
-        return false;
-    };
-    let Judgement::Dead(u) = q else {
-        return false;
-    };
     let Judgement::Dead(m) = o else {
         return false;
     };
-    is_progression_of_all(file, at, index, l, s)
-        & is_union(file, at, index, r, s, u)
-        & is_goal_part(file, at, index, m, s)
+    is_progression_of_all(file, at, index, l, e)
+        & is_union(file, at, index, r, e, u)
+        & is_goal_part(file, at, index, m, e)
 }
 
 // 10 PI: S[T]<S+U, U dead, I<S; ~S dead.
@@ -98,23 +71,15 @@ fn pi(
     file: &[u8],
     at: Places,
     index: &[u16; 768],
-    j: Judgement,
-    p: Judgement,
-    q: Judgement,
+    e: u16,
+    l: u16,
+    r: u16,
+    u: u16,
     o: Judgement,
 ) -> bool
     requires { ⌜ Known (now file) at (now index) ⌝ }
-    ensures { λ r. ⌜ r ≡ follows (decoded (now (file .entry))) (ruleNumbered 10) j (p ∷ q ∷ o ∷ []) ⌝ }
+    ensures { λ ok. ⌜ ok ≡ follows (decoded (now (file .entry))) (ruleNumbered 10) (Dead e) (Within l r ∷ Dead u ∷ o ∷ []) ⌝ }
 {
-    let Judgement::Dead(e) = j else {
-        return false;
-    };
-    let Judgement::Within(l, r) = p else {
-        return false;
-    };
-    let Judgement::Dead(u) = q else {
-        return false;
-    };
     let Judgement::Within(i, m) = o else {
         return false;
     };
@@ -132,36 +97,24 @@ fn rg(
     file: &[u8],
     at: Places,
     index: &[u16; 768],
-    j: Judgement,
-    p: Judgement,
-    q: Judgement,
+    e: u16,
+    l: u16,
+    r: u16,
+    u: u16,
     o: Judgement,
 ) -> bool
     requires { ⌜ Known (now file) at (now index) ⌝ }
-    ensures { λ r. ⌜ r ≡ follows (decoded (now (file .entry))) (ruleNumbered 11) j (p ∷ q ∷ o ∷ []) ⌝ }
+    ensures { λ ok. ⌜ ok ≡ follows (decoded (now (file .entry))) (ruleNumbered 11) (Dead e) (Within l r ∷ Dead u ∷ o ∷ []) ⌝ }
 {
-    let Judgement::Dead(e) = j else {
-        return false;
-    };
-    let Judgement::Within(l, r) = p else {
-        return false;
-    };
-    let Judgement::Dead(u) = q else {
-        return false;
-    };
     let Judgement::Dead(m) = o else {
         return false;
     };
     let StateEntry::Complement(s) = state_set(file, at, index, e) else {
         return false;
     };
-    let StateEntry::Intersection(x, g) = state_set(file, at, index, m) else {
-        return false;
-    };
     is_regression_of_all(file, at, index, l, s)
         & is_union(file, at, index, r, s, u)
-        & is_complement(file, at, index, x, s)
-        & is_goal(file, at, index, g)
+        & is_goal_part_of_complement(file, at, index, m, s)
 }
 
 // 12 RI: [T]S<S+U, U dead, I<~S; S dead.
@@ -169,36 +122,67 @@ fn ri(
     file: &[u8],
     at: Places,
     index: &[u16; 768],
-    j: Judgement,
+    e: u16,
+    l: u16,
+    r: u16,
+    u: u16,
+    o: Judgement,
+) -> bool
+    requires { ⌜ Known (now file) at (now index) ⌝ }
+    ensures { λ ok. ⌜ ok ≡ follows (decoded (now (file .entry))) (ruleNumbered 12) (Dead e) (Within l r ∷ Dead u ∷ o ∷ []) ⌝ }
+{
+    let Judgement::Within(i, m) = o else {
+        return false;
+    };
+    is_regression_of_all(file, at, index, l, e)
+        & is_union(file, at, index, r, e, u)
+        & is_init(file, at, index, i)
+        & is_complement(file, at, index, m, e)
+}
+
+// Whether e is dead by a rule of 8 to 12, which have an inclusion and a dead set for their first premises.
+fn by_inclusion(
+    file: &[u8],
+    at: Places,
+    index: &[u16; 768],
+    rule: u8,
+    e: u16,
     p: Judgement,
     q: Judgement,
     o: Judgement,
 ) -> bool
     requires { ⌜ Known (now file) at (now index) ⌝ }
-    ensures { λ r. ⌜ r ≡ follows (decoded (now (file .entry))) (ruleNumbered 12) j (p ∷ q ∷ o ∷ []) ⌝ }
+    requires { ⌜ (8 ≤ rule) × (rule ≤ 12) ⌝ }
+    ensures { λ ok. ⌜ ok ≡ follows (decoded (now (file .entry))) (ruleNumbered rule) (Dead e) (p ∷ q ∷ o ∷ []) ⌝ }
 {
-    let Judgement::Dead(s) = j else {
-        return false;
-    };
     let Judgement::Within(l, r) = p else {
         return false;
     };
     let Judgement::Dead(u) = q else {
         return false;
     };
-    let Judgement::Within(i, m) = o else {
-        return false;
-    };
-    is_regression_of_all(file, at, index, l, s)
-        & is_union(file, at, index, r, s, u)
-        & is_init(file, at, index, i)
-        & is_complement(file, at, index, m, s)
+    match rule {
+        Rule::SD => sd(file, at, index, e, l, r, u),
+        Rule::PG => pg(file, at, index, e, l, r, u, o),
+        Rule::PI => pi(file, at, index, e, l, r, u, o),
+        Rule::RG => rg(file, at, index, e, l, r, u, o),
+        Rule::RI => ri(file, at, index, e, l, r, u, o),
+        _ => false,
+    }
 }
 
-// 13 CI: I dead; unsolvable.
-fn ci(file: &[u8], at: Places, index: &[u16; 768], j: Judgement, p: Judgement) -> bool
+// Whether the task is unsolvable by rule 13 CI, I dead, or 14 CG, G dead.
+fn unsolvable(
+    file: &[u8],
+    at: Places,
+    index: &[u16; 768],
+    rule: u8,
+    j: Judgement,
+    p: Judgement,
+) -> bool
     requires { ⌜ Known (now file) at (now index) ⌝ }
-    ensures { λ r. ⌜ r ≡ follows (decoded (now (file .entry))) (ruleNumbered 13) j (p ∷ []) ⌝ }
+    requires { ⌜ (13 ≤ rule) × (rule ≤ 14) ⌝ }
+    ensures { λ ok. ⌜ ((js : List Judgement) → ok ≡ follows (decoded (now (file .entry))) (ruleNumbered rule) j (p ∷ js)) ⌝ }
 {
     let Judgement::Unsolvable = j else {
         return false;
@@ -206,21 +190,11 @@ fn ci(file: &[u8], at: Places, index: &[u16; 768], j: Judgement, p: Judgement) -
     let Judgement::Dead(e) = p else {
         return false;
     };
-    is_init(file, at, index, e)
-}
-
-// 14 CG: G dead; unsolvable.
-fn cg(file: &[u8], at: Places, index: &[u16; 768], j: Judgement, p: Judgement) -> bool
-    requires { ⌜ Known (now file) at (now index) ⌝ }
-    ensures { λ r. ⌜ r ≡ follows (decoded (now (file .entry))) (ruleNumbered 14) j (p ∷ []) ⌝ }
-{
-    let Judgement::Unsolvable = j else {
-        return false;
-    };
-    let Judgement::Dead(e) = p else {
-        return false;
-    };
-    is_goal(file, at, index, e)
+    match rule {
+        Rule::CI => is_init(file, at, index, e),
+        Rule::CG => is_goal(file, at, index, e),
+        _ => false,
+    }
 }
 
 // Whether a judgement follows by a rule of 6 to 14 from its premises, as many of p, q and o as the rule has.
@@ -238,16 +212,15 @@ pub fn by_rule(
     requires { ⌜ (6 ≤ rule) × (rule ≤ 14) ⌝ }
     ensures { λ r. ⌜ r ≡ follows (decoded (now (file .entry))) (ruleNumbered rule) j (p ∷ q ∷ o ∷ []) ⌝ }
 {
+    if Rule::CI <= rule {
+        return unsolvable(file, at, index, rule, j, p);
+    }
+    let Judgement::Dead(e) = j else {
+        return false;
+    };
     match rule {
-        Rule::ED => ed(file, at, index, j),
-        Rule::UD => ud(file, at, index, j, p, q),
-        Rule::SD => sd(file, at, index, j, p, q),
-        Rule::PG => pg(file, at, index, j, p, q, o),
-        Rule::PI => pi(file, at, index, j, p, q, o),
-        Rule::RG => rg(file, at, index, j, p, q, o),
-        Rule::RI => ri(file, at, index, j, p, q, o),
-        Rule::CI => ci(file, at, index, j, p),
-        Rule::CG => cg(file, at, index, j, p),
-        _ => false,
+        Rule::ED => is_empty(file, at, index, e), // 6 ED: 0 dead
+        Rule::UD => ud(file, at, index, e, p, q),
+        _ => by_inclusion(file, at, index, rule, e, p, q, o),
     }
 }

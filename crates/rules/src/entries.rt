@@ -8,10 +8,10 @@ ghost use mathlib.Core.Path.{_≡_};
 ghost use lib.Dec.{eqb};
 ghost use Rattle.meaning.specs.File.{actionSetAt, actionKind};
 ghost use Rattle.certificate.specs.Known.{Known, decoded};
-ghost use Rattle.rules.specs.Tests.{ofSort, naming, namingBoth, namingGoal, namingAll};
+ghost use Rattle.rules.specs.Tests.{ofSort, naming, namingBoth, namingComplement, namingGoal, namingComplementGoal, namingAll};
 
 // Whether entry e is the empty set, 0.
-pub fn is_empty(file: &[u8], at: Places, index: &[u16; 768], e: u16) -> bool
+pub(crate) fn is_empty(file: &[u8], at: Places, index: &[u16; 768], e: u16) -> bool
     requires { ⌜ Known (now file) at (now index) ⌝ }
     ensures { λ r. ⌜ r ≡ ofSort (decoded (now (file .entry))) 0 e ⌝ }
 {
@@ -22,7 +22,7 @@ pub fn is_empty(file: &[u8], at: Places, index: &[u16; 768], e: u16) -> bool
 }
 
 // Whether entry e is the start, I.
-pub fn is_init(file: &[u8], at: Places, index: &[u16; 768], e: u16) -> bool
+pub(crate) fn is_init(file: &[u8], at: Places, index: &[u16; 768], e: u16) -> bool
     requires { ⌜ Known (now file) at (now index) ⌝ }
     ensures { λ r. ⌜ r ≡ ofSort (decoded (now (file .entry))) 1 e ⌝ }
 {
@@ -33,7 +33,7 @@ pub fn is_init(file: &[u8], at: Places, index: &[u16; 768], e: u16) -> bool
 }
 
 // Whether entry e is the forbidden states, G.
-pub fn is_goal(file: &[u8], at: Places, index: &[u16; 768], e: u16) -> bool
+pub(crate) fn is_goal(file: &[u8], at: Places, index: &[u16; 768], e: u16) -> bool
     requires { ⌜ Known (now file) at (now index) ⌝ }
     ensures { λ r. ⌜ r ≡ ofSort (decoded (now (file .entry))) 2 e ⌝ }
 {
@@ -44,7 +44,7 @@ pub fn is_goal(file: &[u8], at: Places, index: &[u16; 768], e: u16) -> bool
 }
 
 // Whether entry e is the complement of x.
-pub fn is_complement(file: &[u8], at: Places, index: &[u16; 768], e: u16, x: u16) -> bool
+pub(crate) fn is_complement(file: &[u8], at: Places, index: &[u16; 768], e: u16, x: u16) -> bool
     requires { ⌜ Known (now file) at (now index) ⌝ }
     ensures { λ r. ⌜ r ≡ naming (decoded (now (file .entry))) 6 e x ⌝ }
 {
@@ -55,7 +55,14 @@ pub fn is_complement(file: &[u8], at: Places, index: &[u16; 768], e: u16, x: u16
 }
 
 // Whether entry e is the intersection of x and y, in this order.
-pub fn is_intersection(file: &[u8], at: Places, index: &[u16; 768], e: u16, x: u16, y: u16) -> bool
+pub(crate) fn is_intersection(
+    file: &[u8],
+    at: Places,
+    index: &[u16; 768],
+    e: u16,
+    x: u16,
+    y: u16,
+) -> bool
     requires { ⌜ Known (now file) at (now index) ⌝ }
     ensures { λ r. ⌜ r ≡ namingBoth (decoded (now (file .entry))) 7 e x y ⌝ }
 {
@@ -66,7 +73,7 @@ pub fn is_intersection(file: &[u8], at: Places, index: &[u16; 768], e: u16, x: u
 }
 
 // Whether entry e is the intersection of x and G, in this order.
-pub fn is_goal_part(file: &[u8], at: Places, index: &[u16; 768], e: u16, x: u16) -> bool
+pub(crate) fn is_goal_part(file: &[u8], at: Places, index: &[u16; 768], e: u16, x: u16) -> bool
     requires { ⌜ Known (now file) at (now index) ⌝ }
     ensures { λ r. ⌜ r ≡ namingGoal (decoded (now (file .entry))) e x ⌝ }
 {
@@ -76,8 +83,25 @@ pub fn is_goal_part(file: &[u8], at: Places, index: &[u16; 768], e: u16, x: u16)
     (a == x) & is_goal(file, at, index, b)
 }
 
+// Whether entry e is the intersection of the complement of x and G, in this order.
+pub(crate) fn is_goal_part_of_complement(
+    file: &[u8],
+    at: Places,
+    index: &[u16; 768],
+    e: u16,
+    x: u16,
+) -> bool
+    requires { ⌜ Known (now file) at (now index) ⌝ }
+    ensures { λ r. ⌜ r ≡ namingComplementGoal (decoded (now (file .entry))) e x ⌝ }
+{
+    let StateEntry::Intersection(a, b) = state_set(file, at, index, e) else {
+        return false;
+    };
+    is_complement(file, at, index, a, x) & is_goal(file, at, index, b)
+}
+
 // Whether entry e is the union of x and y, in this order.
-pub fn is_union(file: &[u8], at: Places, index: &[u16; 768], e: u16, x: u16, y: u16) -> bool
+pub(crate) fn is_union(file: &[u8], at: Places, index: &[u16; 768], e: u16, x: u16, y: u16) -> bool
     requires { ⌜ Known (now file) at (now index) ⌝ }
     ensures { λ r. ⌜ r ≡ namingBoth (decoded (now (file .entry))) 8 e x y ⌝ }
 {
@@ -88,7 +112,14 @@ pub fn is_union(file: &[u8], at: Places, index: &[u16; 768], e: u16, x: u16, y: 
 }
 
 // Whether entry e is x[y], what the actions of y make of x.
-pub fn is_progression(file: &[u8], at: Places, index: &[u16; 768], e: u16, x: u16, y: u16) -> bool
+pub(crate) fn is_progression(
+    file: &[u8],
+    at: Places,
+    index: &[u16; 768],
+    e: u16,
+    x: u16,
+    y: u16,
+) -> bool
     requires { ⌜ Known (now file) at (now index) ⌝ }
     ensures { λ r. ⌜ r ≡ namingBoth (decoded (now (file .entry))) 9 e x y ⌝ }
 {
@@ -98,19 +129,50 @@ pub fn is_progression(file: &[u8], at: Places, index: &[u16; 768], e: u16, x: u1
     (a == x) & (b == y)
 }
 
-// Whether entry e is [y]x, from where the actions of y lead into x.
-pub fn is_regression(file: &[u8], at: Places, index: &[u16; 768], e: u16, x: u16, y: u16) -> bool
+// Whether entry e is (~x)[y].
+pub(crate) fn is_progression_of_complement(
+    file: &[u8],
+    at: Places,
+    index: &[u16; 768],
+    e: u16,
+    x: u16,
+    y: u16,
+) -> bool
     requires { ⌜ Known (now file) at (now index) ⌝ }
-    ensures { λ r. ⌜ r ≡ namingBoth (decoded (now (file .entry))) 10 e x y ⌝ }
+    ensures { λ r. ⌜ r ≡ namingComplement (decoded (now (file .entry))) 9 e x y ⌝ }
+{
+    let StateEntry::Progression(a, b) = state_set(file, at, index, e) else {
+        return false;
+    };
+    is_complement(file, at, index, a, x) & (b == y)
+}
+
+// Whether entry e is [y]~x.
+pub(crate) fn is_regression_of_complement(
+    file: &[u8],
+    at: Places,
+    index: &[u16; 768],
+    e: u16,
+    x: u16,
+    y: u16,
+) -> bool
+    requires { ⌜ Known (now file) at (now index) ⌝ }
+    ensures { λ r. ⌜ r ≡ namingComplement (decoded (now (file .entry))) 10 e x y ⌝ }
 {
     let StateEntry::Regression(a, b) = state_set(file, at, index, e) else {
         return false;
     };
-    (a == x) & (b == y)
+    is_complement(file, at, index, a, x) & (b == y)
 }
 
 // Whether entry e is x[T]. T is a set of kind 0: a list of all the actions will not do.
-pub fn is_progression_of_all(file: &[u8], at: Places, index: &[u16; 768], e: u16, x: u16) -> bool
+pub(crate) fn is_progression_of_all(
+    file: &[u8],
+    at: Places,
+    index: &[u16; 768],
+    e: u16,
+    x: u16,
+) -> bool
     requires { ⌜ Known (now file) at (now index) ⌝ }
     ensures { λ r. ⌜ r ≡ namingAll (decoded (now (file .entry))) 9 e x ⌝ }
 {
@@ -121,7 +183,13 @@ pub fn is_progression_of_all(file: &[u8], at: Places, index: &[u16; 768], e: u16
 }
 
 // Whether entry e is [T]x.
-pub fn is_regression_of_all(file: &[u8], at: Places, index: &[u16; 768], e: u16, x: u16) -> bool
+pub(crate) fn is_regression_of_all(
+    file: &[u8],
+    at: Places,
+    index: &[u16; 768],
+    e: u16,
+    x: u16,
+) -> bool
     requires { ⌜ Known (now file) at (now index) ⌝ }
     ensures { λ r. ⌜ r ≡ namingAll (decoded (now (file .entry))) 10 e x ⌝ }
 {

@@ -1,6 +1,6 @@
-// Rules 6 to 28: each one's function answers by its pattern.
+// Rules 6 to 28: each is answered by its pattern.
 
 pub mod dead;
-pub mod entries;
+mod entries;
 pub mod rule;
 pub mod within;

@@ -7,42 +7,16 @@ use Rattle.rules.proofs.Views.{other, taken}
 use Rattle.rules.proofs.dead.pi.Statement.{statement}
 use Rattle.rules.proofs.dead.pi.Tie as tie
 
-returns-5 : tie.Need-returns-5
+returns-2 : tie.Need-returns-2
 unfolding opened
-returns-5 c =
-    let s1 = c .before .before .before in
-    let s2 = s1 .before .before .before in
-    let s3 = s2 .before .before .before in
-    let s4 = s3 .before .before .before in
-    simp (s4 .j .given .1, s3 .p .given .1, s2 .q .given .1, s1 .o .given .1, other _ _ (c .before .state-set .ensures) 6 tt (c .match5 .keys2))
-
-returns-6 : tie.Need-returns-6
-returns-6 c =
-    let s1 = c .before .before .before .before in
-    let t1 = taken _ _ (s1 .before .before .state-set .ensures) (s1 .s .given .1) in
-    let s2 = s1 .before .before .before .before in
-    let s3 = s2 .before .before .before in
-    let s4 = s3 .before .before .before in
-    let s5 = s4 .before .before .before in
-    rw (c .before .before .is-progression-of-all .ensures, c .before .is-union .ensures, c .is-init .ensures) (pi _ (s5 .j .given .1) (s4 .p .given .1) (s3 .q .given .1) (s2 .o .given .1) t1)
+returns-2 c = rw (other _ _ (c .before .state-set .ensures) 6 (c .match2 .keys2))
 
 pub pi-spec : {M : Type 1} → statement M
 unfolding listed
 pi-spec =
-    tie.close
-    (tie.spec
-    (λ c. search needs)
-    (λ c. other-said _ 10 0 0 _ _ (tt, tt, tt) (c .match .keys2))
-    (λ c. search needs)
-    (λ c. other-said _ 10 1 1 _ _ (tt, tt, tt) (c .match2 .keys2))
-    (λ c. search needs)
-    (λ c. other-said _ 10 2 0 _ _ (tt, tt, tt) (c .match3 .keys2))
-    (λ c. search needs)
-    (λ c. other-said _ 10 3 1 _ _ (tt, tt, tt) (c .match4 .keys2))
-    (λ c κs. search needs)
-    (λ c. search needs)
-    returns-5
-    (λ c κs. search needs)
-    (λ c κs. search needs)
-    (λ c κs. search needs)
-    returns-6)
+    tie.close (tie.spec (λ c. search needs)
+    (λ c. other-said _ 10 3 1 _ _ tt (c .match .keys2))
+    (λ c κs. search needs) (λ c. search needs)
+    returns-2
+    (λ c κs. search needs) (λ c κs. search needs) (λ c κs. search needs)
+    (λ c. rw (c .before .before .before .before .before .before .before .before .o .given .1, c .before .before .is-progression-of-all .ensures, c .before .is-union .ensures, c .is-init .ensures) (pi _ _ _ _ _ _ _ _ (taken _ _ (c .before .before .before .before .before .before .state-set .ensures) (c .before .before .before .before .s .given .1)))))

@@ -6,13 +6,9 @@ use Rattle.rules.proofs.Views.{takenᴬ, otherᴬ}
 use Rattle.rules.proofs.entries.is_all.Statement.{statement}
 use Rattle.rules.proofs.entries.is_all.Tie as tie
 
-returns : tie.Need-returns
-unfolding opened
-returns c = rw (otherᴬ _ _ (c .before .action-set .ensures) 0 tt (c .match .keys2))
-
-returns-2 : tie.Need-returns-2
-unfolding opened
-returns-2 c = rw (takenᴬ _ _ (c .before .before .action-set .ensures) (c .enum-told .given .1))
-
 pub is-all-spec : {M : Type 1} → statement M
-is-all-spec = tie.close (tie.spec (λ c κs. search needs) (λ c. search needs) returns returns-2)
+unfolding opened
+is-all-spec =
+    tie.close (tie.spec (λ c κs. search needs) (λ c. search needs)
+    (λ c. rw (otherᴬ _ _ (c .before .action-set .ensures) 0 (c .match .keys2)))
+    (λ c. rw (takenᴬ _ _ (c .before .before .action-set .ensures) (c .enum-told .given .1))))

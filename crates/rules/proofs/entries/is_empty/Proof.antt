@@ -6,13 +6,9 @@ use Rattle.rules.proofs.Views.{taken, other}
 use Rattle.rules.proofs.entries.is_empty.Statement.{statement}
 use Rattle.rules.proofs.entries.is_empty.Tie as tie
 
-returns : tie.Need-returns
-unfolding opened
-returns c = rw (other _ _ (c .before .state-set .ensures) 0 tt (c .match .keys2))
-
-returns-2 : tie.Need-returns-2
-unfolding opened
-returns-2 c = rw (taken _ _ (c .before .before .state-set .ensures) (c .enum-told .given .1))
-
 pub is-empty-spec : {M : Type 1} → statement M
-is-empty-spec = tie.close (tie.spec (λ c κs. search needs) (λ c. search needs) returns returns-2)
+unfolding opened
+is-empty-spec =
+    tie.close (tie.spec (λ c κs. search needs) (λ c. search needs)
+    (λ c. rw (other _ _ (c .before .state-set .ensures) 0 (c .match .keys2)))
+    (λ c. rw (taken _ _ (c .before .before .state-set .ensures) (c .enum-told .given .1))))

@@ -6,13 +6,9 @@ use Rattle.rules.proofs.Views.{taken, other}
 use Rattle.rules.proofs.entries.is_intersection.Statement.{statement}
 use Rattle.rules.proofs.entries.is_intersection.Tie as tie
 
-returns : tie.Need-returns
-unfolding opened
-returns c = rw (other _ _ (c .before .state-set .ensures) 7 tt (c .match .keys2))
-
-returns-2 : tie.Need-returns-2
-unfolding opened
-returns-2 c = rw (taken _ _ (c .before .before .before .state-set .ensures) (c .before .a .given .1))
-
 pub is-intersection-spec : {M : Type 1} → statement M
-is-intersection-spec = tie.close (tie.spec (λ c κs. search needs) (λ c. search needs) returns returns-2)
+unfolding opened
+is-intersection-spec =
+    tie.close (tie.spec (λ c κs. search needs) (λ c. search needs)
+    (λ c. rw (other _ _ (c .before .state-set .ensures) 7 (c .match .keys2)))
+    (λ c. rw (taken _ _ (c .before .before .before .state-set .ensures) (c .before .a .given .1))))

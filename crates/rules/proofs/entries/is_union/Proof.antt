@@ -6,13 +6,9 @@ use Rattle.rules.proofs.Views.{taken, other}
 use Rattle.rules.proofs.entries.is_union.Statement.{statement}
 use Rattle.rules.proofs.entries.is_union.Tie as tie
 
-returns : tie.Need-returns
-unfolding opened
-returns c = rw (other _ _ (c .before .state-set .ensures) 8 tt (c .match .keys2))
-
-returns-2 : tie.Need-returns-2
-unfolding opened
-returns-2 c = rw (taken _ _ (c .before .before .before .state-set .ensures) (c .before .s .given .1))
-
 pub is-union-spec : {M : Type 1} → statement M
-is-union-spec = tie.close (tie.spec (λ c κs. search needs) (λ c. search needs) returns returns-2)
+unfolding opened
+is-union-spec =
+    tie.close (tie.spec (λ c κs. search needs) (λ c. search needs)
+    (λ c. rw (other _ _ (c .before .state-set .ensures) 8 (c .match .keys2)))
+    (λ c. rw (taken _ _ (c .before .before .before .state-set .ensures) (c .before .s .given .1))))

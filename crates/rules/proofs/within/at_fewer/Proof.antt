@@ -1,56 +1,22 @@
 -- `within::at_fewer` meets its contract: AT's tests in turn, and nothing matches a judgement or an entry of another kind.
 -- Assumes nothing.
 use borrow.Author.Needs.{needs}
-use Rattle.rules.proofs.RuleLaws.{chain, listed, opened, other-said}
+use Rattle.rules.proofs.RuleLaws.{listed, opened, other-said}
 use Rattle.rules.proofs.WithinRules.{at-fewer}
 use Rattle.rules.proofs.Views.{other, taken}
 use Rattle.rules.proofs.within.at_fewer.Statement.{statement}
 use Rattle.rules.proofs.within.at_fewer.Tie as tie
 
-returns-4 : tie.Need-returns-4
+returns-2 : tie.Need-returns-2
 unfolding opened
-returns-4 c =
-    let s1 = c .before .before .before in
-    let s2 = s1 .before .before .before in
-    let s3 = s2 .before .before .before in
-    simp (s3 .j .given .1, s2 .p .given .1, s1 .q .given .1, other _ _ (c .before .state-set .ensures) 9 tt (c .match4 .keys2))
-
-returns-5 : tie.Need-returns-5
-unfolding opened
-returns-5 c =
-    let s1 = c .before .before .before in
-    let t1 = taken _ _ (s1 .before .before .state-set .ensures) (s1 .s .given .1) in
-    let s2 = s1 .before .before .before .before in
-    let s3 = s2 .before .before .before in
-    let s4 = s3 .before .before .before in
-    simp (s4 .j .given .1, s3 .p .given .1, s2 .q .given .1, t1, other _ _ (c .before .state-set2 .ensures) 9 tt (c .match5 .keys2), chain)
-
-returns-6 : tie.Need-returns-6
-returns-6 c =
-    let s1 = c .before in
-    let t1 = taken _ _ (s1 .before .before .state-set2 .ensures) (s1 .t .given .1) in
-    let s2 = s1 .before .before .before .before in
-    let t2 = taken _ _ (s2 .before .before .state-set .ensures) (s2 .s .given .1) in
-    let s3 = s2 .before .before .before .before in
-    let s4 = s3 .before .before .before in
-    let s5 = s4 .before .before .before in
-    at-fewer _ (s5 .j .given .1) (s4 .p .given .1) (s3 .q .given .1) t2 t1
+returns-2 c = rw (other _ _ (c .before .state-set .ensures) 9 (c .match2 .keys2))
 
 pub at-fewer-spec : {M : Type 1} → statement M
 unfolding listed
 at-fewer-spec =
-    tie.close
-    (tie.spec
-    (λ c. search needs)
-    (λ c. other-said _ 23 0 1 _ _ (tt, tt, tt) (c .match .keys2))
-    (λ c. search needs)
-    (λ c. other-said _ 23 1 1 _ _ (tt, tt, tt) (c .match2 .keys2))
-    (λ c. search needs)
-    (λ c. other-said _ 23 2 2 _ _ (tt, tt, tt) (c .match3 .keys2))
+    tie.close (tie.spec (λ c. search needs)
+    (λ c. other-said _ 23 2 2 _ _ tt (c .match .keys2))
+    (λ c κs. search needs) (λ c. search needs)
+    returns-2
     (λ c κs. search needs)
-    (λ c. search needs)
-    returns-4
-    (λ c κs. search needs)
-    (λ c. search needs)
-    returns-5
-    returns-6)
+    (λ c. rw (c .before .before .before .before .before .before .q .given .1, c .is-progression .ensures) (at-fewer _ _ _ _ _ _ _ _ _ (taken _ _ (c .before .before .before .before .state-set .ensures) (c .before .before .s .given .1)))))

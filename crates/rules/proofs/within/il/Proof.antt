@@ -1,33 +1,14 @@
--- `within::il` meets its contract: IL's tests in turn, and nothing matches a judgement or an entry of another kind.
+-- `within::il` meets its contract: IL's tests in turn, and nothing matches an entry of another kind.
 -- Assumes nothing.
 use borrow.Author.Needs.{needs}
-use Rattle.rules.proofs.RuleLaws.{listed, opened, other-said}
-use Rattle.rules.proofs.WithinRules.{il}
+use Rattle.rules.proofs.RuleLaws.{chain, opened}
 use Rattle.rules.proofs.Views.{other, taken}
 use Rattle.rules.proofs.within.il.Statement.{statement}
 use Rattle.rules.proofs.within.il.Tie as tie
 
-returns-2 : tie.Need-returns-2
-unfolding opened
-returns-2 c =
-    let s1 = c .before .before .before in
-    simp (s1 .j .given .1, other _ _ (c .before .state-set .ensures) 7 tt (c .match2 .keys2))
-
-returns-3 : tie.Need-returns-3
-returns-3 c =
-    let s1 = c .before in
-    let t1 = taken _ _ (s1 .before .before .state-set .ensures) (s1 .s .given .1) in
-    let s2 = s1 .before .before .before .before in
-    il _ (s2 .j .given .1) t1
-
 pub il-spec : {M : Type 1} → statement M
-unfolding listed
+unfolding opened
 il-spec =
-    tie.close
-    (tie.spec
-    (λ c. search needs)
-    (λ c. other-said _ 18 0 1 _ _ (tt, tt, tt) (c .match .keys2))
-    (λ c κs. search needs)
-    (λ c. search needs)
-    returns-2
-    returns-3)
+    tie.close (tie.spec (λ c κs. search needs) (λ c. search needs)
+    (λ c. rw (other _ _ (c .before .state-set .ensures) 7 (c .match .keys2)))
+    (λ c. simp (taken _ _ (c .before .before .before .state-set .ensures) (c .before .s .given .1), chain)))

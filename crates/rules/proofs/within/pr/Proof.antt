@@ -1,53 +1,16 @@
--- `within::pr` meets its contract: PR's tests in turn, and nothing matches a judgement or an entry of another kind.
+-- `within::pr` meets its contract: PR's tests in turn, and nothing matches an entry of another kind.
 -- Assumes nothing.
 use borrow.Author.Needs.{needs}
-use Rattle.rules.proofs.RuleLaws.{chain, listed, opened, other-said}
+use Rattle.rules.proofs.RuleLaws.{chain, opened}
 use Rattle.rules.proofs.WithinRules.{pr}
 use Rattle.rules.proofs.Views.{other, taken}
 use Rattle.rules.proofs.within.pr.Statement.{statement}
 use Rattle.rules.proofs.within.pr.Tie as tie
 
-returns-3 : tie.Need-returns-3
-unfolding opened
-returns-3 c =
-    let s1 = c .before .before .before in
-    let s2 = s1 .before .before .before in
-    simp (s2 .j .given .1, s1 .p .given .1, other _ _ (c .before .state-set .ensures) 10 tt (c .match3 .keys2))
-
-returns-4 : tie.Need-returns-4
-unfolding opened
-returns-4 c =
-    let s1 = c .before .before .before in
-    let t1 = taken _ _ (s1 .before .before .state-set .ensures) (s1 .x .given .1) in
-    let s2 = s1 .before .before .before .before in
-    let s3 = s2 .before .before .before in
-    simp (s3 .j .given .1, s2 .p .given .1, t1, other _ _ (c .before .state-set2 .ensures) 6 tt (c .match4 .keys2), chain)
-
-returns-5 : tie.Need-returns-5
-returns-5 c =
-    let s1 = c .before .before .before in
-    let t1 = taken _ _ (s1 .before .before .state-set2 .ensures) (s1 .s .given .1) in
-    let s2 = s1 .before .before .before .before in
-    let t2 = taken _ _ (s2 .before .before .state-set .ensures) (s2 .x .given .1) in
-    let s3 = s2 .before .before .before .before in
-    let s4 = s3 .before .before .before in
-    rw (c .before .is-progression .ensures, c .is-complement .ensures) (pr _ (s4 .j .given .1) (s3 .p .given .1) t2 t1)
-
 pub pr-spec : {M : Type 1} → statement M
-unfolding listed
+unfolding opened
 pr-spec =
-    tie.close
-    (tie.spec
-    (λ c. search needs)
-    (λ c. other-said _ 27 0 1 _ _ (tt, tt, tt) (c .match .keys2))
-    (λ c. search needs)
-    (λ c. other-said _ 27 1 1 _ _ (tt, tt, tt) (c .match2 .keys2))
-    (λ c κs. search needs)
-    (λ c. search needs)
-    returns-3
-    (λ c κs. search needs)
-    (λ c. search needs)
-    returns-4
-    (λ c κs. search needs)
-    (λ c κs. search needs)
-    returns-5)
+    tie.close (tie.spec (λ c κs. search needs) (λ c. search needs)
+    (λ c. simp (other _ _ (c .before .state-set .ensures) 9 (c .match .keys2), chain))
+    (λ c κs. search needs) (λ c κs. search needs)
+    (λ c. rw (c .before .is-regression-of-complement .ensures, c .is-complement .ensures) (pr _ _ _ _ _ _ _ (taken _ _ (c .before .before .before .before .before .state-set .ensures) (c .before .before .before .s .given .1)))))

@@ -1,28 +1,9 @@
--- `within::si` meets its contract: SI's tests in turn, and nothing matches a judgement or an entry of another kind.
+-- `within::si` meets its contract: SI's tests in turn.
 -- Assumes nothing.
 use borrow.Author.Needs.{needs}
-use Rattle.rules.proofs.RuleLaws.{listed, other-said}
 use Rattle.rules.proofs.WithinRules.{si}
 use Rattle.rules.proofs.within.si.Statement.{statement}
 use Rattle.rules.proofs.within.si.Tie as tie
 
-returns-4 : tie.Need-returns-4
-returns-4 c =
-    let s1 = c .before .before in
-    let s2 = s1 .before .before .before in
-    let s3 = s2 .before .before .before in
-    rw (c .is-intersection .ensures) (si _ (s3 .j .given .1) (s2 .p .given .1) (s1 .q .given .1))
-
 pub si-spec : {M : Type 1} → statement M
-unfolding listed
-si-spec =
-    tie.close
-    (tie.spec
-    (λ c. search needs)
-    (λ c. other-said _ 21 0 1 _ _ (tt, tt, tt) (c .match .keys2))
-    (λ c. search needs)
-    (λ c. other-said _ 21 1 1 _ _ (tt, tt, tt) (c .match2 .keys2))
-    (λ c. search needs)
-    (λ c. other-said _ 21 2 1 _ _ (tt, tt, tt) (c .match3 .keys2))
-    (λ c κs. search needs)
-    returns-4)
+si-spec = tie.close (tie.spec (λ c κs. search needs) (λ c. rw (c .is-intersection .ensures) (si _ _ _ _ _ _ _)))
