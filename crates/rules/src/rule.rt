@@ -1,7 +1,6 @@
 // The rules' numbers, premise counts and judgement kinds.
 ghost use mathlib.Core.Path.{_≡_};
-ghost use lib.ListN.{getD};
-ghost use Rattle.rules.specs.Numbers.{ruleTable, premisesOf, judgementOf};
+ghost use Rattle.rules.specs.Numbers.{premisesOf, judgementOf};
 
 // What a rule of document 01's list carries beside its number: its premise count and its judgement kind.
 pub struct Rule(pub u8, pub u8);
@@ -95,27 +94,29 @@ impl Rule {
 
     pub const RP: u8 = 28;
 
-    // The rule with a number; that of 0 where the number names none.
-    fn numbered(number: u8) -> Rule
-        ensures { λ r. ⌜ r ≡ getD ruleTable number (0, 0) ⌝ }
-    {
-        let i = number as usize;
-        if i < 29 { RULES[i] } else { Rule(0, 0) }
-    }
-
     // How many premises a rule has; 0 for a number that names none.
     pub fn premises(number: u8) -> u8
         ensures { λ r. ⌜ r ≡ premisesOf number ⌝ }
     {
-        let rule = Rule::numbered(number);
-        rule.0
+        let i = number as usize;
+        if i < 29 {
+            let rule = RULES[i];
+            rule.0
+        } else {
+            0
+        }
     }
 
     // The judgement kind that a rule gives; 0 for a number that names none.
     pub fn judgement(number: u8) -> u8
         ensures { λ r. ⌜ r ≡ judgementOf number ⌝ }
     {
-        let rule = Rule::numbered(number);
-        rule.1
+        let i = number as usize;
+        if i < 29 {
+            let rule = RULES[i];
+            rule.1
+        } else {
+            0
+        }
     }
 }
