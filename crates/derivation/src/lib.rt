@@ -1,4 +1,4 @@
-// The rules 6 to 28 and one step of a certificate. It knows of basic statements only whether they are permitted and true.
+// One step of a certificate. Of basic statements it knows only whether they are permitted and true, and of rules 6 to 28 whether they match.
 
 pub mod reply;
 pub mod step;
