@@ -3,19 +3,17 @@
 use mathlib.Core.Path.{_≡_, refl, sym, ap, _∙_, subst}
 use Prim.Native.Nat.{ℕ, zero, suc, _+_, _*_, _≤_, _<_}
 use native.Mathlib.Omega.{arith}
-use mathlib.Core.Bool.{_&&_}
 use mathlib.Core.List.{List, [], _∷_}
 use lib.ListN.{length, getD}
-use lib.Dec.{eqb, leb}
 use Rattle.task.specs.Task.{Task}
 use Rattle.meaning.specs.Result.{found}
 use Rattle.meaning.specs.Bytes.{number}
 use Rattle.meaning.specs.File.{ActionSet, StateSet, Step, File}
-use Rattle.meaning.specs.Layout.{items, field, count, mask, action, step, Kind, actionKinds, stateKinds, entry, entries, readTask, readFile}
+use Rattle.meaning.specs.Layout.{action, step, Kind, actionKinds, stateKinds, entry, entries, readTask, readFile}
 use Rattle.certificate.specs.Views.{afterEntry, entryPlace, placesOf}
 use Rattle.certificate.specs.Index.{actionIn}
-use Rattle.meaning.proofs.Reading.{file-walked}
-use Rattle.meaning.proofs.Results.{found-same, bind-case, need-case}
+use Rattle.meaning.proofs.Reading.{task-walked, file-walked}
+use Rattle.meaning.proofs.Results.{found-same, bind-case}
 use Rattle.certificate.proofs.NumberLaws.{number-at}
 use Rattle.certificate.proofs.ItemLaws.{Items, items-stand, count-stands, action-stands, stepRead, step-stands}
 use Rattle.certificate.proofs.EntryLaws.{StateSetStands, ActionSetStands, Ends, state-set-stands, action-set-stands}
@@ -75,19 +73,11 @@ module _ {A : Type 0} (bytes : List ℕ) (S : ℕ → A → Type 0) where
 
 task-stands : (bytes : List ℕ) (r : Task × ℕ) → readTask bytes ≡ found r
     → (r .1 ≡ 24 + 24 * length (r .0 .actions)) × Items bytes 24 (actionIn bytes) 24 (r .0 .actions)
-unfolding readTask
 task-stands bytes r e =
-    bind-case (field bytes 1 4) _ r e λ v _ e₁.
-    need-case (eqb v 1) 2 4 _ r e₁ λ _ e₂.
-    bind-case (field bytes 1 5) _ r e₂ λ n _ e₃.
-    need-case (leb 1 n && leb n 64) 4 5 _ r e₃ λ _ e₄.
-    bind-case (mask bytes n 6) _ r e₄ λ _ _ e₅.
-    bind-case (mask bytes n 14) _ r e₅ λ _ _ e₆.
-    bind-case (count bytes 0 256 22) _ r e₆ λ m m! e₇.
-    bind-case (items (action bytes n) 24 24 m) _ r e₇ λ acts acts! q.
-    let c = count-stands bytes 0 256 22 m m! in
-    let h = items-stand bytes 24 (actionIn bytes) (action bytes n) (action-stands bytes n) m 24 acts (c .0) acts! in
-    subst (λ (x : Task × ℕ). (x .1 ≡ 24 + 24 * length (x .0 .actions)) × Items bytes 24 (actionIn bytes) 24 (x .0 .actions)) (found-same q)
+    let w = task-walked bytes r e in
+    let c = count-stands bytes 0 256 22 (w .m) (w .m!) in
+    let h = items-stand bytes 24 (actionIn bytes) (action bytes (w .n)) (action-stands bytes (w .n)) (w .m) 24 (w .acts) (c .0) (w .acts!) in
+    subst (λ (x : Task × ℕ). (x .1 ≡ 24 + 24 * length (x .0 .actions)) × Items bytes 24 (actionIn bytes) 24 (x .0 .actions)) (w .whole)
     (ap (λ (k : ℕ). 24 + 24 * k) (sym (h .0)), h .1)
 
 -- where everything stands; the steps end the file

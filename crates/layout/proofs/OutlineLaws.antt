@@ -3,10 +3,10 @@
 use mathlib.Core.Path.{_≡_, refl, sym, ap, ap₂, _∙_, subst}
 use Prim.Native.Nat.{ℕ, zero, suc, _+_, _*_, _^_}
 use native.Mathlib.Omega.{arith}
-use mathlib.Core.Bool.{true, _&&_}
+use mathlib.Core.Bool.{true}
 use mathlib.Core.List.{List}
 use lib.ListN.{length}
-use lib.Dec.{leb, ltb, eqb}
+use lib.Dec.{leb, ltb}
 use Rattle.task.specs.Task.{Task}
 use Rattle.certificate.specs.declared.Places.{Places}
 use Rattle.meaning.specs.Result.{Result, refuse, found, _>>=_, need}
@@ -17,6 +17,7 @@ use Rattle.meaning.specs.Layout.{items, field, count, mask, action, step, Kind,
 use Rattle.meaning.specs.Writing.{FitsAction}
 use Rattle.bodies.specs.Verdicts.{verdict}
 use Rattle.layout.specs.Sections.{sectionAt, stepsAt, restAt}
+use Rattle.meaning.proofs.Reading.{task-walked}
 use Rattle.meaning.proofs.Results.{bind-case, need-case, found-same}
 use Rattle.meaning.proofs.Given.{action-gives, items-give, action-sets-give, state-sets-give}
 use Rattle.certificate.proofs.ByteLaws.{number-in}
@@ -59,23 +60,15 @@ mask-is bytes n p x e =
     sym (found-same q) ∙ field-is bytes 8 p y y! .0
 
 pub task-is : (bytes : List ℕ) (r : Task × ℕ) → readTask bytes ≡ found r → TaskIs bytes (r .0) × (r .1 ≡ 24 + 24 * length (r .0 .actions))
-unfolding readTask
 task-is bytes r e =
-    bind-case (field bytes 1 4) _ r e λ v _ e₁.
-    need-case (eqb v 1) 2 4 _ r e₁ λ _ e₂.
-    bind-case (field bytes 1 5) _ r e₂ λ n n! e₃.
-    need-case (leb 1 n && leb n 64) 4 5 _ r e₃ λ _ e₄.
-    bind-case (mask bytes n 6) _ r e₄ λ s s! e₅.
-    bind-case (mask bytes n 14) _ r e₅ λ g g! e₆.
-    bind-case (count bytes 0 256 22) _ r e₆ λ m m! e₇.
-    bind-case (items (action bytes n) 24 24 m) _ r e₇ λ acts acts! q.
-    let h : length acts ≡ m = items-give (FitsAction n) (action bytes n) 24 (action-gives bytes n) m 0 24 acts acts! .0 in
-    subst (λ (x : Task × ℕ). TaskIs bytes (x .0) × (x .1 ≡ 24 + 24 * length (x .0 .actions))) (found-same q) (
+    let w = task-walked bytes r e in
+    let h : length (w .acts) ≡ w .m = items-give (FitsAction (w .n)) (action bytes (w .n)) 24 (action-gives bytes (w .n)) (w .m) 0 24 (w .acts) (w .acts!) .0 in
+    subst (λ (x : Task × ℕ). TaskIs bytes (x .0) × (x .1 ≡ 24 + 24 * length (x .0 .actions))) (w .whole) (
       record {
-        facts = field-is bytes 1 5 n n! .0;
-        init = mask-is bytes n 6 s s!;
-        goal = mask-is bytes n 14 g g!;
-        actions = h ∙ count-is bytes 0 256 22 m m! .0;
+        facts = field-is bytes 1 5 (w .n) (w .n!) .0;
+        init = mask-is bytes (w .n) 6 (w .s) (w .s!);
+        goal = mask-is bytes (w .n) 14 (w .g) (w .g!);
+        actions = h ∙ count-is bytes 0 256 22 (w .m) (w .m!) .0;
       },
       omega arith,
     )

@@ -6,6 +6,7 @@ use mathlib.Core.Bool.{_&&_}
 use mathlib.Core.List.{List}
 use lib.ListN.{length}
 use lib.Dec.{eqb, leb, leb→le}
+use Rattle.task.specs.declared.Action.{Action}
 use Rattle.task.specs.Task.{Task}
 use Rattle.meaning.specs.Result.{found}
 use Rattle.meaning.specs.Bytes.{number, inside, AreBytes}
@@ -16,26 +17,61 @@ use Rattle.meaning.proofs.Results.{found-same, bind-case, need-case, an
 use Rattle.meaning.proofs.Numbers.{number-lt}
 use Rattle.meaning.proofs.Given.{Gives, mask-gives, count-gives, action-gives, items-give, action-sets-give, state-sets-give}
 
-read-task : (bytes : List ℕ) (r : Task × ℕ) → readTask bytes ≡ found r → FitsTask (r .0) × (r .1 ≡ 24 + 24 * length (r .0 .actions))
+-- the parts of a task that is read
+pub record TaskWalked (bytes : List ℕ) (r : Task × ℕ) : Type 0 where
+  pub n : ℕ
+  pub n! : field bytes 1 5 ≡ found n
+  pub some-facts : 1 ≤ n
+  pub few-facts : n ≤ 64
+  pub s : ℕ
+  pub s! : mask bytes n 6 ≡ found s
+  pub g : ℕ
+  pub g! : mask bytes n 14 ≡ found g
+  pub m : ℕ
+  pub m! : count bytes 0 256 22 ≡ found m
+  pub acts : List Action
+  pub acts! : items (action bytes n) 24 24 m ≡ found acts
+  pub whole : _≡_ {A = Task × ℕ} (record { facts = n; init = s; goal = g; actions = acts }, 24 + 24 * m) r
+
+pub task-walked : (bytes : List ℕ) (r : Task × ℕ) → readTask bytes ≡ found r → TaskWalked bytes r
 unfolding readTask
-read-task bytes r e =
+task-walked bytes r e =
     bind-case (field bytes 1 4) _ r e λ v _ e₁.
     need-case (eqb v 1) 2 4 _ r e₁ λ _ e₂.
-    bind-case (field bytes 1 5) _ r e₂ λ n _ e₃.
-    need-case (leb 1 n && leb n 64) 4 5 _ r e₃ λ n! e₄.
+    bind-case (field bytes 1 5) _ r e₂ λ n n! e₃.
+    need-case (leb 1 n && leb n 64) 4 5 _ r e₃ λ h e₄.
     bind-case (mask bytes n 6) _ r e₄ λ s s! e₅.
     bind-case (mask bytes n 14) _ r e₅ λ g g! e₆.
     bind-case (count bytes 0 256 22) _ r e₆ λ m m! e₇.
     bind-case (items (action bytes n) 24 24 m) _ r e₇ λ acts acts! q.
-    let h = items-give (FitsAction n) (action bytes n) 24 (action-gives bytes n) m 0 24 acts acts! in
-    let b = and-out (leb 1 n) (leb n 64) n! in
-    subst (λ (x : Task × ℕ). FitsTask (x .0) × (x .1 ≡ 24 + 24 * length (x .0 .actions))) (found-same q) (
+    let b = and-out (leb 1 n) (leb n 64) h in
+    record {
+      n = n;
+      n! = n!;
+      some-facts = leb→le 1 n (b .0);
+      few-facts = leb→le n 64 (b .1);
+      s = s;
+      s! = s!;
+      g = g;
+      g! = g!;
+      m = m;
+      m! = m!;
+      acts = acts;
+      acts! = acts!;
+      whole = found-same q;
+    }
+
+read-task : (bytes : List ℕ) (r : Task × ℕ) → readTask bytes ≡ found r → FitsTask (r .0) × (r .1 ≡ 24 + 24 * length (r .0 .actions))
+read-task bytes r e =
+    let w = task-walked bytes r e in
+    let h = items-give (FitsAction (w .n)) (action bytes (w .n)) 24 (action-gives bytes (w .n)) (w .m) 0 24 (w .acts) (w .acts!) in
+    subst (λ (x : Task × ℕ). FitsTask (x .0) × (x .1 ≡ 24 + 24 * length (x .0 .actions))) (w .whole) (
       record {
-        some-facts = leb→le 1 n (b .0);
-        few-facts = leb→le n 64 (b .1);
-        init = mask-gives bytes n 6 s s!;
-        goal = mask-gives bytes n 14 g g!;
-        few-actions = subst (λ (l : ℕ). l ≤ 256) (sym (h .0)) (count-gives bytes 0 256 22 m m! .1);
+        some-facts = w .some-facts;
+        few-facts = w .few-facts;
+        init = mask-gives bytes (w .n) 6 (w .s) (w .s!);
+        goal = mask-gives bytes (w .n) 14 (w .g) (w .g!);
+        few-actions = subst (λ (l : ℕ). l ≤ 256) (sym (h .0)) (count-gives bytes 0 256 22 (w .m) (w .m!) .1);
         actions = h .1;
       },
       ap (λ (k : ℕ). 24 + 24 * k) (sym (h .0)),

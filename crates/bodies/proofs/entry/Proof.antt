@@ -1,9 +1,10 @@
 -- `bodies::entry` meets its contract.
 -- Assumes nothing.
-use Prim.Native.Nat.{_+_, _-_}
+use Prim.Native.Nat.{ℕ, _+_, _-_}
 use native.Mathlib.Omega.{arith}
+use Rattle.bodies.specs.Verdicts.{formsOf}
 use Rattle.bodies.proofs.FormLaws.{section-alike}
-use Rattle.bodies.proofs.EntryChecks.{entry-cut, entry-past, entry-ends, entry-none, entry-unknown, entry-unfit, entry-part, entry-body}
+use Rattle.bodies.proofs.EntryChecks.{Begun, begun, Kinded, kinded, entry-cut, entry-past, entry-ends, entry-none, entry-unknown, entry-unfit, entry-part, entry-body}
 use borrow.Author.Needs.{needs}
 use Rattle.bodies.proofs.entry.Statement.{statement}
 use Rattle.bodies.proofs.entry.Tie as tie
@@ -21,99 +22,59 @@ returns-2 c =
     entry-past (a .file .now) (a .s .facts) _ _ (section-alike (a .file .now) (a .s) (a .i)) (a .place)
     (inside! .ensures) (c .before .before .before .before .if1 .left) (λ i. c .before .before .before .entry-head .ensures i .len) (c .before .inside2 .ensures) (c .if2 .taken)
 
+-- the entry lies in the file
+module _ (c : tie.Else2) where
+  abbrev start : tie.Start
+  start = c .before .before .before .before .before .before .before
+
+  abbrev len : ℕ
+  len = c .before .before .before .entry-head .result .len
+
+  lies : Begun (start .args .file .now) (start .args .place) len
+  lies =
+      begun _ _ (c .before .before .before .before .before .inside .ensures) (c .before .before .before .before .if1 .left)
+      (λ i. c .before .before .before .entry-head .ensures i .len) (c .before .inside2 .ensures) (c .if2 .left)
+
+-- its kind is known
+kind : (c : tie.Else4)
+    → Kinded (start (c .before .before .before .before) .args .file .now)
+    (formsOf (start (c .before .before .before .before) .args .s) (start (c .before .before .before .before) .args .i))
+    (start (c .before .before .before .before) .args .place) (len (c .before .before .before .before)) (c .before .before .form-at .result)
+kind c =
+    let e = c .before .before .before .before in
+    kinded (lies e) _ (search needs) (λ i. e .before .before .before .entry-head .ensures i .kind) (c .before .before .form-at .ensures) (c .before .known .ensures) (c .if4 .left)
+
 returns-3 : tie.Need-returns-3
 returns-3 c =
-    let inside! = c .before .before .before .before .before .before .inside in
-    let if1! = c .before .before .before .before .before .if1 in
-    let a = c .before .before .before .before .before .before .before .before .args in
-    entry-none (a .file .now) (a .s .facts) _ _ (section-alike (a .file .now) (a .s) (a .i)) (a .place)
-    (inside! .ensures) (if1! .left) (λ i. c .before .before .before .before .entry-head .ensures i .len) (c .before .before .inside2 .ensures) (c .before .if2 .left) (search needs)
-
-add-t14 : tie.Need-add-t14
-add-t14 c =
-    let inside! = c .before .before .before .before .before .before .before .before .before .inside in
-    let if1! = c .before .before .before .before .before .before .before .before .if1 in
-    let head! = c .before .before .before .before .before .before .before .entry-head in
-    let inside2! = c .before .before .before .before .before .inside2 in
-    let if2! = c .before .before .before .before .if2 in
-    let a = c .before .before .before .before .before .before .before .before .before .before .before .args in
-    let h = entry-ends (a .file .now) (a .s .facts) _ _ (section-alike (a .file .now) (a .s) (a .i)) (a .place)
-    (inside! .ensures) (if1! .left) (λ i. head! .ensures i .len) (inside2! .ensures) (if2! .left) in
-    search needs
+    let a = start (c .before) .args in
+    entry-none (a .file .now) (a .s .facts) _ _ (section-alike (a .file .now) (a .s) (a .i)) (a .place) (lies (c .before)) (search needs)
 
 returns-4 : tie.Need-returns-4
 returns-4 c =
-    let inside! = c .before .before .before .before .before .before .before .before .before .inside in
-    let if1! = c .before .before .before .before .before .before .before .before .if1 in
-    let head! = c .before .before .before .before .before .before .before .entry-head in
-    let inside2! = c .before .before .before .before .before .inside2 in
-    let if2! = c .before .before .before .before .if2 in
-    let a = c .before .before .before .before .before .before .before .before .before .before .before .args in
-    entry-unknown (a .file .now) (a .s .facts) _ _ (section-alike (a .file .now) (a .s) (a .i)) (a .place)
-    (inside! .ensures) (if1! .left) (λ i. head! .ensures i .len) (inside2! .ensures) (if2! .left) (search needs) (λ i. head! .ensures i .kind) (c .before .before .form-at .ensures) (c .before .known .ensures) (c .if4 .taken)
+    let e = c .before .before .before .before in
+    let a = start e .args in
+    entry-unknown (a .file .now) (a .s .facts) _ _ (section-alike (a .file .now) (a .s) (a .i)) (a .place) (lies e)
+    (search needs) (λ i. e .before .before .before .entry-head .ensures i .kind) (c .before .before .form-at .ensures) (c .before .known .ensures) (c .if4 .taken)
 
 returns-5 : tie.Need-returns-5
 returns-5 c =
-    let inside! = c .before .before .before .before .before .before .before .before .before .before .before .inside in
-    let if1! = c .before .before .before .before .before .before .before .before .before .before .if1 in
-    let head! = c .before .before .before .before .before .before .before .before .before .entry-head in
-    let inside2! = c .before .before .before .before .before .before .before .inside2 in
-    let if2! = c .before .before .before .before .before .before .if2 in
-    let form-at! = c .before .before .before .before .form-at in
-    let a = c .before .before .before .before .before .before .before .before .before .before .before .before .before .args in
-    entry-unfit (a .file .now) (a .s .facts) _ _ (section-alike (a .file .now) (a .s) (a .i)) (a .place)
-    (inside! .ensures) (if1! .left) (λ i. head! .ensures i .len) (inside2! .ensures) (if2! .left) (search needs) (λ i. head! .ensures i .kind) (form-at! .ensures) (c .before .before .before .known .ensures) (c .before .before .if4 .left) (c .before .fits2 .ensures) (c .if5 .taken)
-
-part-body-end : tie.Need-part-body-end
-part-body-end c =
-    let inside! = c .before .before .before .before .before .before .before .before .before .before .before .inside in
-    let if1! = c .before .before .before .before .before .before .before .before .before .before .if1 in
-    let head! = c .before .before .before .before .before .before .before .before .before .entry-head in
-    let inside2! = c .before .before .before .before .before .before .before .inside2 in
-    let if2! = c .before .before .before .before .before .before .if2 in
-    let a = c .before .before .before .before .before .before .before .before .before .before .before .before .before .args in
-    let h = entry-ends (a .file .now) (a .s .facts) _ _ (section-alike (a .file .now) (a .s) (a .i)) (a .place)
-    (inside! .ensures) (if1! .left) (λ i. head! .ensures i .len) (inside2! .ensures) (if2! .left) in
-    search needs
-
-add-body : tie.Need-add-body
-add-body c =
-    let inside! = c .before .before .before .before .before .before .before .before .before .before .before .before .inside in
-    let if1! = c .before .before .before .before .before .before .before .before .before .before .before .if1 in
-    let head! = c .before .before .before .before .before .before .before .before .before .before .entry-head in
-    let inside2! = c .before .before .before .before .before .before .before .before .inside2 in
-    let if2! = c .before .before .before .before .before .before .before .if2 in
-    let a = c .before .before .before .before .before .before .before .before .before .before .before .before .before .before .args in
-    let h = entry-ends (a .file .now) (a .s .facts) _ _ (section-alike (a .file .now) (a .s) (a .i)) (a .place)
-    (inside! .ensures) (if1! .left) (λ i. head! .ensures i .len) (inside2! .ensures) (if2! .left) in
-    search needs
+    let e = c .before .before .before .before .before .before in
+    let a = start e .args in
+    entry-unfit (a .file .now) (a .s .facts) _ _ (section-alike (a .file .now) (a .s) (a .i)) (a .place) (lies e) (kind (c .before .before)) (c .before .fits2 .ensures) (c .if5 .taken)
 
 body-requires : tie.Need-body-requires
 body-requires c κs =
-    let inside! = c .before .before .before .before .before .before .before .before .before .before .before .before .inside in
-    let if1! = c .before .before .before .before .before .before .before .before .before .before .before .if1 in
-    let head! = c .before .before .before .before .before .before .before .before .before .before .entry-head in
-    let inside2! = c .before .before .before .before .before .before .before .before .inside2 in
-    let if2! = c .before .before .before .before .before .before .before .if2 in
-    let form-at! = c .before .before .before .before .before .form-at in
-    let known! = c .before .before .before .before .known in
-    let a = c .before .before .before .before .before .before .before .before .before .before .before .before .before .before .args in
-    entry-part (a .file .now) (a .s .facts) _ _ (section-alike (a .file .now) (a .s) (a .i)) (a .place)
-    (inside! .ensures) (if1! .left) (λ i. head! .ensures i .len) (inside2! .ensures) (if2! .left) (search needs) (λ i. head! .ensures i .kind) (form-at! .ensures) (known! .ensures) (c .before .before .before .if4 .left) (c .before .before .fits2 .ensures) (c .before .if5 .left) (a .place + 2 + head! .result .len - (a .place + 3)) 65536 (omega arith) (search needs)
+    let e = c .before .before .before .before .before .before .before in
+    let a = start e .args in
+    entry-part (a .file .now) (a .s .facts) _ _ (section-alike (a .file .now) (a .s) (a .i)) (a .place) (lies e) (kind (c .before .before .before))
+    (c .before .before .fits2 .ensures) (c .before .if5 .left) (a .place + 2 + len e - (a .place + 3)) 65536 (omega arith) (search needs)
 
 returns-6 : tie.Need-returns-6
 returns-6 c =
-    let inside! = c .before .before .before .before .before .before .before .before .before .before .before .before .before .inside in
-    let if1! = c .before .before .before .before .before .before .before .before .before .before .before .before .if1 in
-    let head! = c .before .before .before .before .before .before .before .before .before .before .before .entry-head in
-    let inside2! = c .before .before .before .before .before .before .before .before .before .inside2 in
-    let if2! = c .before .before .before .before .before .before .before .before .if2 in
-    let form-at! = c .before .before .before .before .before .before .form-at in
-    let known! = c .before .before .before .before .before .known in
-    let if4! = c .before .before .before .before .if4 in
-    let a = c .before .before .before .before .before .before .before .before .before .before .before .before .before .before .before .args in
-    entry-body (a .file .now) (a .s .facts) _ _ (section-alike (a .file .now) (a .s) (a .i)) (a .place)
-    (inside! .ensures) (if1! .left) (λ i. head! .ensures i .len) (inside2! .ensures) (if2! .left) (search needs) (λ i. head! .ensures i .kind) (form-at! .ensures) (known! .ensures) (if4! .left) (c .before .before .before .fits2 .ensures) (c .before .before .if5 .left) (a .place + 2 + head! .result .len - (a .place + 3)) (omega arith) (c .body .ensures)
+    let e = c .before .before .before .before .before .before .before .before in
+    let a = start e .args in
+    entry-body (a .file .now) (a .s .facts) _ _ (section-alike (a .file .now) (a .s) (a .i)) (a .place) (lies e) (kind (c .before .before .before .before))
+    (c .before .before .before .fits2 .ensures) (c .before .before .if5 .left) (a .place + 2 + len e - (a .place + 3)) (omega arith) (c .body .ensures)
 
 pub entry-spec : {M : Type 1} → statement M
 entry-spec =
@@ -129,7 +90,7 @@ entry-spec =
     returns-3
     (λ c κs. search needs)
     (λ c κs. search needs)
-    add-t14
+    (λ c. let h = entry-ends (lies (c .before .before .before .before)) in search needs)
     returns-4
     (λ c κs. search needs)
     returns-5
@@ -138,7 +99,7 @@ entry-spec =
     (λ c. search needs)
     (λ c. search needs)
     (λ c. search needs)
-    part-body-end
-    add-body
+    (λ c. let h = entry-ends (lies (c .before .before .before .before .before .before)) in search needs)
+    (λ c. let h = entry-ends (lies (c .before .before .before .before .before .before .before)) in search needs)
     body-requires
     returns-6)

@@ -1,7 +1,9 @@
 -- `layout::entries` meets its contract.
 -- The loop's invariant: the entries that are left say what all of them say.
 -- Assumes nothing.
-use Prim.Native.Nat.{_-_, _≤_}
+use Prim.Native.Nat.{_+_, _-_, _≤_}
+use lib.ListN.{length}
+use Rattle.certificate.specs.Views.{numberAt}
 use Rattle.bodies.specs.Verdicts.{setsOf}
 use Rattle.layout.proofs.SectionChecks.{EntriesLeft, entries-start, entries-end, entry-fine, entry-bad, entry-good}
 use borrow.Author.Needs.{needs}
@@ -24,27 +26,14 @@ returns c =
     entry-bad (a .file .now) (setsOf (a .file .now) (a .s) .kinds) (a .place) (a .count) (l .i) (l .at) (l .inv .1) (search needs)
     (c .before .v .given .1) (c .before .before .before .entry .ensures)
 
-add-at : tie.Need-add-at Inv-loop μ-loop
-add-at c =
+-- an entry in which no fault is found ends within the file
+ends : (c : tie.After-enum-told Inv-loop μ-loop)
+    → c .before .before .before .before .loop .at + 2 + numberAt 2 (c .before .before .before .before .before .before .args .file .now) (c .before .before .before .before .loop .at)
+    ≤ length (c .before .before .before .before .before .before .args .file .now)
+ends c =
     let a = c .before .before .before .before .before .before .args in
     let l = c .before .before .before .before .loop in
-    let h = entry-fine (a .file .now) (setsOf (a .file .now) (a .s) .kinds (l .i)) (l .at) (c .enum-told .given .1) (c .before .before .entry .ensures) in
-    search needs
-
-cast-u16-at : tie.Need-cast-u16-at Inv-loop μ-loop
-cast-u16-at c =
-    let a = c .before .before .before .before .before .before .args in
-    let l = c .before .before .before .before .loop in
-    let h = entry-fine (a .file .now) (setsOf (a .file .now) (a .s) .kinds (l .i)) (l .at) (c .enum-told .given .1) (c .before .before .entry .ensures) in
-    search needs
-
-add-at-2 : tie.Need-add-at-2 Inv-loop μ-loop
-add-at-2 c =
-    let a = c .before .before .before .before .before .before .before .args in
-    let l = c .before .before .before .before .before .loop in
-    let h = entry-fine (a .file .now) (setsOf (a .file .now) (a .s) .kinds (l .i)) (l .at) (c .before .enum-told .given .1) (c .before .before .before .entry .ensures) in
-    let e = c .u16-at .ensures in
-    search needs
+    entry-fine (a .file .now) (setsOf (a .file .now) (a .s) .kinds (l .i)) (l .at) (c .enum-told .given .1) (c .before .before .entry .ensures)
 
 loop-again : tie.Need-loop-again Inv-loop μ-loop
 loop-again c =
@@ -71,11 +60,11 @@ entries-spec =
     (λ c. search needs)
     returns
     (λ c. search needs)
-    add-at
-    cast-u16-at
+    (λ c. let h = ends c in search needs)
+    (λ c. let h = ends c in search needs)
     (λ c κs. search needs)
     (λ c. search needs)
-    add-at-2
+    (λ c. let h = ends (c .before) in let e = c .u16-at .ensures in search needs)
     (λ c. search needs)
     (λ c. search needs)
     loop-again

@@ -1,5 +1,7 @@
 -- `layout::steps` meets its contract.
 -- Assumes nothing.
+use Prim.Native.Nat.{_+_, _≤_}
+use lib.ListN.{length}
 use Rattle.layout.proofs.SectionChecks.{count-ends, steps-none, steps-short, steps-more, steps-end}
 use borrow.Author.Needs.{needs}
 use Rattle.layout.proofs.steps.Statement.{statement}
@@ -10,49 +12,29 @@ returns c =
     let a = c .before .before .before .before .before .args in
     steps-none (a .file .now) (a .place) (c .before .v .given .1) (c .before .before .before .count .ensures)
 
-add-first : tie.Need-add-first
-add-first c =
+-- the count of steps is within the file
+ends : (c : tie.After-enum-told) → c .before .before .before .before .args .place + 2 ≤ length (c .before .before .before .before .args .file .now)
+ends c =
     let a = c .before .before .before .before .args in
-    let h = count-ends (a .file .now) 1 2048 (a .place) (c .enum-told .given .1) (c .before .before .count .ensures) in
-    search needs
-
-sub-whole : tie.Need-sub-whole
-sub-whole c =
-    let a = c .before .before .before .before .before .args in
-    let h = count-ends (a .file .now) 1 2048 (a .place) (c .before .enum-told .given .1) (c .before .before .before .count .ensures) in
-    search needs
-
-add-t16 : tie.Need-add-t16
-add-t16 c =
-    let a = c .before .before .before .before .before .before .args in
-    let count! = c .before .before .before .before .count in
-    let h = count-ends (a .file .now) 1 2048 (a .place) (c .before .before .enum-told .given .1) (count! .ensures) in
-    search needs
+    count-ends (a .file .now) 1 2048 (a .place) (c .enum-told .given .1) (c .before .before .count .ensures)
 
 returns-2 : tie.Need-returns-2
 returns-2 c =
-    let a = c .before .before .before .before .before .before .args in
-    let count! = c .before .before .before .before .count in
-    steps-short (a .file .now) (a .place) (c .before .before .enum-told .given .1) (count! .ensures) (c .before .u16-at .ensures) (search needs)
-
-add-end : tie.Need-add-end
-add-end c =
-    let a = c .before .before .before .before .before .before .args in
-    let count! = c .before .before .before .before .count in
-    let h = count-ends (a .file .now) 1 2048 (a .place) (c .before .before .enum-told .given .1) (count! .ensures) in
-    search needs
+    let v = c .before .before in
+    let a = v .before .before .before .before .args in
+    steps-short (a .file .now) (a .place) (v .enum-told .given .1) (v .before .before .count .ensures) (c .before .u16-at .ensures) (search needs)
 
 returns-3 : tie.Need-returns-3
 returns-3 c =
-    let a = c .before .before .before .before .before .before .before .args in
-    let count! = c .before .before .before .before .before .count in
-    steps-more (a .file .now) (a .place) (c .before .before .before .enum-told .given .1) (count! .ensures) (c .before .before .u16-at .ensures) (search needs) (search needs)
+    let v = c .before .before .before in
+    let a = v .before .before .before .before .args in
+    steps-more (a .file .now) (a .place) (v .enum-told .given .1) (v .before .before .count .ensures) (c .before .before .u16-at .ensures) (search needs) (search needs)
 
 returns-4 : tie.Need-returns-4
 returns-4 c =
-    let a = c .before .before .before .before .before .before .before .args in
-    let count! = c .before .before .before .before .before .count in
-    steps-end (a .file .now) (a .place) (c .before .before .before .enum-told .given .1) (count! .ensures) (c .before .before .u16-at .ensures) (search needs) (search needs)
+    let v = c .before .before .before in
+    let a = v .before .before .before .before .args in
+    steps-end (a .file .now) (a .place) (v .enum-told .given .1) (v .before .before .count .ensures) (c .before .before .u16-at .ensures) (search needs) (search needs)
 
 pub steps-spec : {M : Type 1} → statement M
 steps-spec =
@@ -62,15 +44,15 @@ steps-spec =
     (λ c. search needs)
     returns
     (λ c. search needs)
-    add-first
+    (λ c. let h = ends c in search needs)
     (λ c κs. search needs)
     (λ c. search needs)
     (λ c. search needs)
-    sub-whole
+    (λ c. let h = ends (c .before) in search needs)
     (λ c. search needs)
-    add-t16
+    (λ c. let h = ends (c .before .before) in search needs)
     returns-2
     (λ c. search needs)
-    add-end
+    (λ c. let h = ends (c .before .before) in search needs)
     returns-3
     returns-4)
