@@ -15,7 +15,7 @@ use Rattle.meaning.specs.File.{Step, stepAt}
 use Rattle.certificate.specs.Views.{judgementOf}
 use Rattle.certificate.specs.Index.{fieldsOf, stepOf}
 use Rattle.certificate.specs.Known.{Known, decoded}
-use Rattle.rules.specs.Numbers.{premisesOf}
+use Rattle.numbers.specs.Numbers.{premisesOf}
 use Rattle.rules.specs.Derives.{ruleNumbered, derives, judgementAt, follows}
 use Rattle.derivation.specs.Formed.{Derivable}
 use Rattle.derivation.proofs.StepLaws.{derivation-premises, rule-in-table, kind-concluded}

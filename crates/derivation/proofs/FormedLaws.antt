@@ -21,7 +21,7 @@ use Rattle.meaning.proofs.Order.{all-at}
 use Rattle.certificate.proofs.KnownLaws.{known-read, known-steps}
 use Rattle.certificate.proofs.TableLaws.{NoneOf}
 use Rattle.meaning.specs.Step.{entriesFit, wellFormed}
-use Rattle.rules.specs.Numbers.{premisesOf, judgementOf}
+use Rattle.numbers.specs.Numbers.{premisesOf, judgementOf}
 use Rattle.rules.specs.Derives.{judgementAt}
 use Rattle.derivation.specs.Formed.{placeFits, formedUnder, formed}
 use Rattle.rules.proofs.RuleLaws.{and-assoc, and-true}

@@ -18,10 +18,10 @@ use Rattle.meaning.specs.Statements.{statements}
 use Rattle.meaning.specs.Rules.{Rule, _⊢_, rules, patternKind, dead, O}
 use Rattle.meaning.specs.Match.{Letters, _then_, noLetters, matchStep, matchPremises}
 use Rattle.meaning.specs.Step.{Check, derivation, judgementKind, premiseCount, allRules, ruleAt, entriesFit, wellFormed, checkBy, checkStep}
-use Rattle.rules.specs.Numbers.{ruleTable, premisesOf, judgementOf}
+use Rattle.numbers.specs.Numbers.{ruleTable, premisesOf, judgementOf}
 use Rattle.rules.specs.Derives.{isSome, derives, ruleNumbered}
 use Rattle.derivation.specs.Formed.{formedUnder, formed}
-use Rattle.rules.specs.declared.rule.Rule as code
+use Rattle.numbers.specs.declared.Rule as code
 
 -- ---- the rule with a number
 

@@ -5,7 +5,7 @@ use certificate::Places;
 use certificate::known::fields;
 use inclusion::Verdict;
 use inclusion::decide;
-use rules::rule::Rule;
+use numbers::Rule;
 ghost use mathlib.Core.Path.{_≡_};
 ghost use Prim.Native.Nat.{_<_};
 ghost use Rattle.meaning.specs.File.{stepAt};

@@ -7,7 +7,7 @@ use mathlib.Core.List.{[], _∷_}
 use lib.Dec.{eqb}
 use Rattle.certificate.specs.declared.Judgement.the-variants.{Dead, Within, Unsolvable}
 use Rattle.meaning.specs.File.{complement, File, stateSetAt, first, second}
-use Rattle.rules.specs.Tests.{ofSort, naming, namingBoth, namingGoal, namingComplementGoal, namingAll}
+use Rattle.patterns.specs.Tests.{ofSort, naming, namingBoth, namingGoal, namingComplementGoal, namingAll}
 use Rattle.rules.specs.Derives.{ruleNumbered, follows}
 use Rattle.rules.proofs.RuleLaws.{eqb-comm, chain, opened}
 

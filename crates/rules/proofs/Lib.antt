@@ -1,4 +1,3 @@
-pub mod Views
 pub mod RuleLaws
 pub mod DeadRules
 pub mod WithinRules

@@ -19,9 +19,9 @@ use Rattle.meaning.specs.File.{File, actionKind, basicKind, stateKind, first, s
 use Rattle.certificate.proofs.Judgement as judgements
 use Rattle.meaning.specs.Rules.{Rule, _⊢_, Pattern, rules, patternKind}
 use Rattle.meaning.specs.Match.{Letters, noLetters, _then_, given, withLetter, standsFor, ofKind, ofActionKind, matchᴬ, match, matchEntries, matchStep}
-use Rattle.rules.specs.Tests.{ofSort, naming, namingBoth, namingComplement, namingGoal, namingComplementGoal, namingAll}
+use Rattle.patterns.specs.Tests.{ofSort, naming, namingBoth, namingComplement, namingGoal, namingComplementGoal, namingAll}
 use Rattle.rules.specs.Derives.{isSome, ruleNumbered, kindSaid, leftSaid, rightSaid, saying, matchSaid, follows}
-use Rattle.rules.proofs.Views.{others, unlike}
+use Rattle.patterns.proofs.Views.{others, unlike}
 
 -- ---- a chain of tests
 

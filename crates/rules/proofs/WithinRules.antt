@@ -7,7 +7,7 @@ use mathlib.Core.List.{[], _∷_}
 use lib.Dec.{eqb}
 use Rattle.certificate.specs.declared.Judgement.the-variants.{Within, ActionsWithin}
 use Rattle.meaning.specs.File.{either, intersection, union, progression, regression, File, actionSetAt, stateSetAt, first, second}
-use Rattle.rules.specs.Tests.{ofSort, naming, namingBoth, namingComplement}
+use Rattle.patterns.specs.Tests.{ofSort, naming, namingBoth, namingComplement}
 use Rattle.rules.specs.Derives.{ruleNumbered, follows}
 use Rattle.rules.proofs.RuleLaws.{and-comm, and-swap, and-reverse, eqb-comm, chain, opened}
 

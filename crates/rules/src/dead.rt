@@ -1,19 +1,19 @@
 // The rules 6 to 14: a set is dead, or the task is unsolvable. The step's judgement and the premises that rules share are taken apart once for each group of rules; another kind fails.
 // The step says that e is dead, and the first premises of SD, PG, PI, RG and RI that l is within r and that u is dead.
-use crate::entries::is_complement;
-use crate::entries::is_empty;
-use crate::entries::is_goal;
-use crate::entries::is_goal_part;
-use crate::entries::is_goal_part_of_complement;
-use crate::entries::is_init;
-use crate::entries::is_progression_of_all;
-use crate::entries::is_regression_of_all;
-use crate::entries::is_union;
-use crate::rule::Rule;
 use certificate::Judgement;
 use certificate::Places;
 use certificate::StateEntry;
 use certificate::known::state_set;
+use numbers::Rule;
+use patterns::is_complement;
+use patterns::is_empty;
+use patterns::is_goal;
+use patterns::is_goal_part;
+use patterns::is_goal_part_of_complement;
+use patterns::is_init;
+use patterns::is_progression_of_all;
+use patterns::is_regression_of_all;
+use patterns::is_union;
 ghost use mathlib.Core.Path.{_≡_};
 ghost use Prim.Native.Nat.{_≤_};
 ghost use mathlib.Core.List.{List, [], _∷_};

@@ -1,18 +1,18 @@
 // The rules 15 to 28: a state set is within another. The step's judgement and its premises' are taken apart once for each group of rules; a rule is then asked about entry numbers.
 // The step says that l is within r, and the premises that a is within b and c within d.
-use crate::entries::is_complement;
-use crate::entries::is_intersection;
-use crate::entries::is_progression;
-use crate::entries::is_progression_of_complement;
-use crate::entries::is_regression_of_complement;
-use crate::entries::is_union;
-use crate::rule::Rule;
 use certificate::ActionEntry;
 use certificate::Judgement;
 use certificate::Places;
 use certificate::StateEntry;
 use certificate::known::action_set;
 use certificate::known::state_set;
+use numbers::Rule;
+use patterns::is_complement;
+use patterns::is_intersection;
+use patterns::is_progression;
+use patterns::is_progression_of_complement;
+use patterns::is_regression_of_complement;
+use patterns::is_union;
 ghost use mathlib.Core.Path.{_≡_};
 ghost use Prim.Native.Nat.{_≤_};
 ghost use mathlib.Core.List.{List, [], _∷_};

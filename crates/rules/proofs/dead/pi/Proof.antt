@@ -3,7 +3,7 @@
 use borrow.Author.Needs.{needs}
 use Rattle.rules.proofs.RuleLaws.{listed, opened, other-said}
 use Rattle.rules.proofs.DeadRules.{pi}
-use Rattle.rules.proofs.Views.{other, taken}
+use Rattle.patterns.proofs.Views.{other, taken}
 use Rattle.rules.proofs.dead.pi.Statement.{statement}
 use Rattle.rules.proofs.dead.pi.Tie as tie
 

@@ -3,7 +3,7 @@
 use borrow.Author.Needs.{needs}
 use Rattle.rules.proofs.RuleLaws.{listed, opened, other-said}
 use Rattle.rules.proofs.WithinRules.{at-fewer}
-use Rattle.rules.proofs.Views.{other, taken}
+use Rattle.patterns.proofs.Views.{other, taken}
 use Rattle.rules.proofs.within.at_fewer.Statement.{statement}
 use Rattle.rules.proofs.within.at_fewer.Tie as tie
 

@@ -3,7 +3,7 @@
 use borrow.Author.Needs.{needs}
 use Rattle.rules.proofs.RuleLaws.{opened}
 use Rattle.rules.proofs.WithinRules.{au}
-use Rattle.rules.proofs.Views.{other, taken, otherᴬ, takenᴬ}
+use Rattle.patterns.proofs.Views.{other, taken, otherᴬ, takenᴬ}
 use Rattle.rules.proofs.within.au.Statement.{statement}
 use Rattle.rules.proofs.within.au.Tie as tie
 

@@ -3,7 +3,7 @@
 use borrow.Author.Needs.{needs}
 use Rattle.rules.proofs.RuleLaws.{chain, opened}
 use Rattle.rules.proofs.WithinRules.{pr}
-use Rattle.rules.proofs.Views.{other, taken}
+use Rattle.patterns.proofs.Views.{other, taken}
 use Rattle.rules.proofs.within.pr.Statement.{statement}
 use Rattle.rules.proofs.within.pr.Tie as tie
 

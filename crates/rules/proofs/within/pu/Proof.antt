@@ -3,7 +3,7 @@
 use borrow.Author.Needs.{needs}
 use Rattle.rules.proofs.RuleLaws.{opened}
 use Rattle.rules.proofs.WithinRules.{pu}
-use Rattle.rules.proofs.Views.{other, taken}
+use Rattle.patterns.proofs.Views.{other, taken}
 use Rattle.rules.proofs.within.pu.Statement.{statement}
 use Rattle.rules.proofs.within.pu.Tie as tie
 

@@ -2,7 +2,7 @@
 -- Assumes nothing.
 use borrow.Author.Needs.{needs}
 use Rattle.rules.proofs.RuleLaws.{chain, opened}
-use Rattle.rules.proofs.Views.{other, taken}
+use Rattle.patterns.proofs.Views.{other, taken}
 use Rattle.rules.proofs.within.ul.Statement.{statement}
 use Rattle.rules.proofs.within.ul.Tie as tie
 

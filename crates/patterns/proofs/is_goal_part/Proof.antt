@@ -1,0 +1,14 @@
+-- `patterns::is_goal_part` meets its contract: another case is another kind, and the wanted case names what the entry names.
+-- Assumes nothing.
+use borrow.Author.Needs.{needs}
+use Rattle.patterns.proofs.Views.{taken, other, tests}
+use Rattle.patterns.proofs.is_goal_part.Statement.{statement}
+use Rattle.patterns.proofs.is_goal_part.Tie as tie
+
+pub is-goal-part-spec : {M : Type 1} → statement M
+unfolding tests
+is-goal-part-spec =
+    tie.close (tie.spec (λ c κs. search needs) (λ c. search needs)
+    (λ c. rw (other _ _ (c .before .state-set .ensures) 7 (c .match .keys2)))
+    (λ c κs. search needs)
+    (λ c. rw (taken _ _ (c .before .before .before .before .state-set .ensures) (c .before .before .a .given .1), c .is-goal .ensures)))
