@@ -3,10 +3,10 @@
 use mathlib.Core.Path.{_≡_, refl, sym, ap, ap₂, _∙_, subst}
 use Prim.Native.Nat.{ℕ, suc, _+_, _≤_}
 use native.Mathlib.Omega.{arith}
+use native.Mathlib.Decide.{decLt}
 use mathlib.Core.Bool.{Bool, true, false, not, _&&_, _||_}
 use mathlib.Core.List.{List, [], _∷_}
-use lib.ListN.{length, take, getD, length-take, length-append}
-use lib.Seq.{take-all}
+use lib.ListN.{length, take, getD}
 use lib.Dec.{T, eqb, eqb→eq, leb, leb→le}
 use borrow.Author.Tests.{le-leb, eq-eqb}
 use Rattle.task.specs.Reach.{every}
@@ -17,20 +17,18 @@ use Rattle.meaning.specs.Shapes.{keep, Sides, kindAt, child, leaves, isBasic, i
 use Rattle.shapes.specs.Gathered.{bracketLeaf, bracketSides}
 use Rattle.trees.specs.declared.Leaves.{Leaves}
 use Rattle.shapes.specs.declared.parts.Parts.{Parts}
-use Rattle.trees.specs.Trees.{listOf, Lists, hasKind}
+use Rattle.trees.specs.Trees.{listOf, Lists, Found, hasKind}
 use Rattle.shapes.specs.Decided.{sidesIn, Holding, Paired, Plain, Bracketed}
 use Rattle.shapes.proofs.LeafKinds.{the-only}
-use Rattle.trees.proofs.LeafLaws.{leaves-tree, leaves-leaf, by-tree}
+use Rattle.trees.proofs.LeafLaws.{leaves-some}
 
--- ---- the first nine
-
-pub all-found : (x : Leaves) (es : List ℕ) → Lists x (take 9 es) → x .count ≤ 8 → Lists x es
-all-found x es h l =
-    let n : length es ≤ 9 = omega (arith, h .size, length-take 9 es) in
-    subst (Lists x) (take-all 9 es n) h
-
-pub few-found : (x : Leaves) (es : List ℕ) → Lists x (take 9 es) → length es ≤ 8 → x .count ≤ 8
-few-found x es h l = omega (arith, h .size, length-take 9 es)
+-- no more are found than there are
+found-few : (x : Leaves) (es : List ℕ) → Found x es → x .count ≤ length es
+found-few x es h =
+    elim (decLt (length es) 9) [
+      | yes l ↦ (let e = h .all (h .few (omega arith)) .size in omega arith)
+      | no l ↦ omega (arith, h .sound .few)
+    ]
 
 -- ---- the parts
 
@@ -59,7 +57,7 @@ module _ (f : File) where
       let l : T (literals && left && right) = and-left (literals && left && right) (ofClauses f x || ofStates f (anchors x) x) t in
       (leb→le _ 8 (and-right literals left (and-left (literals && left) right l)), leb→le _ 8 (and-right (literals && left) right l))
 
-  pub plain-parts : (a b : ℕ) (r : Parts) → Lists (r .outer) (take 9 (leaves f 7 a)) → Lists (r .inner) [] → Lists (r .right) (take 9 (leaves f 8 b))
+  pub plain-parts : (a b : ℕ) (r : Parts) → Found (r .outer) (leaves f 7 a) → Lists (r .inner) [] → Found (r .right) (leaves f 8 b)
       → r .ok ≡ (leb (r .outer .count) 8 && leb (r .right .count) 8) → Plain f a b r
   unfolding shape₁
   plain-parts a b r x y z e = record {
@@ -67,11 +65,11 @@ module _ (f : File) where
         let t : T (leb (r .outer .count) 8 && leb (r .right .count) 8) = holds (sym e ∙ g) in
         let l : r .outer .count ≤ 8 = leb→le _ 8 (and-left (leb (r .outer .count) 8) (leb (r .right .count) 8) t) in
         let m : r .right .count ≤ 8 = leb→le _ 8 (and-right (leb (r .outer .count) 8) (leb (r .right .count) 8) t) in
-        holding r (leaves f 7 a) [] (leaves f 8 b) (all-found _ _ x l) y (all-found _ _ z m) (omega (arith, y .size)) m;
+        holding r (leaves f 7 a) [] (leaves f 8 b) (x .all l) y (z .all m) (omega (arith, y .size)) m;
     only = λ t.
         let w = few-of _ _ t in
         let n : length (leaves f 7 a) ≤ 8 = omega (arith, w .0) in
-        e ∙ ap₂ _&&_ (le-leb _ 8 (few-found _ (leaves f 7 a) x n)) (le-leb _ 8 (few-found _ (leaves f 8 b) z (w .1)));
+        e ∙ ap₂ _&&_ (le-leb _ 8 (x .few n)) (le-leb _ 8 (z .few (w .1)));
   }
 
 -- ---- with a bracket
@@ -106,20 +104,13 @@ four-tests true false c d t = absurd t
 four-tests false b c d t = absurd t
 
 module _ (f : File) (o : Ordered f) where
-  -- a tree has a leaf
-  leaves-some : (e : ℕ) → 1 ≤ length (leaves f 7 e)
-  leaves-some =
-      by-tree f o 7 tt (λ e. 1 ≤ length (leaves f 7 e))
-      (λ e t p q. rw (leaves-tree f o 7 tt e t) (omega (arith, length-append (leaves f 7 (child f e)) (leaves f 7 (second (stateSetAt f e))), p)))
-      (λ e n. rw (leaves-leaf f o 7 tt e n) (omega arith))
-
   module _ (k a b : ℕ) (r : Parts) (all found : Leaves) (c : ℕ)
-      (x : Lists all (take 9 (leaves f 7 a)))
+      (x : Found all (leaves f 7 a))
       (y : Lists found (keep (hasKind f k true) (listOf all)))
       (z : Lists (r .outer) (keep (hasKind f k false) (listOf all)))
       (named : c ≡ child f (getD (found .items) 0 0))
-      (u : Lists (r .inner) (take 9 (leaves f 7 c)))
-      (v : Lists (r .right) (take 9 (leaves f 8 b)))
+      (u : Found (r .inner) (leaves f 7 c))
+      (v : Found (r .right) (leaves f 8 b))
       (w : r .actions ≡ second (stateSetAt f (getD (found .items) 0 0)))
       (e : r .ok ≡ (leb (all .count) 8 && eqb (found .count) 1 && (leb (r .outer .count + r .inner .count) 8 && leb (r .right .count) 8))) where
     abbrev here : ℕ → Bool
@@ -128,7 +119,7 @@ module _ (f : File) (o : Ordered f) where
     -- what is known once few leaves are found
     module _ (few : all .count ≤ 8) where
       left-all : listOf all ≡ leaves f 7 a
-      left-all = all-found all (leaves f 7 a) x few .same
+      left-all = x .all few .same
 
       outer-all : Lists (r .outer) (keep (λ d. not (here d)) (leaves f 7 a))
       unfolding hasKind
@@ -162,23 +153,23 @@ module _ (f : File) (o : Ordered f) where
         let h = few-if g in
         let i : c ≡ child f (bracketLeaf f k a) = named ∙ ap (child f) (sym (leaf-is (h .0) (h .1))) in
         let l : r .inner .count ≤ 8 = omega (arith, h .2) in
-        holding r _ _ _ (outer-all (h .0)) (subst (λ (d : ℕ). Lists (r .inner) (leaves f 7 d)) i (all-found (r .inner) (leaves f 7 c) u l))
-        (all-found (r .right) (leaves f 8 b) v (h .3)) (h .2) (h .3)
+        holding r _ _ _ (outer-all (h .0)) (subst (λ (d : ℕ). Lists (r .inner) (leaves f 7 d)) i (u .all l))
+        (v .all (h .3)) (h .2) (h .3)
 
     -- a permitted shape has one bracket, and few leaves
     bracket-few : (q : ℕ) → keep here (leaves f 7 a) ≡ q ∷ [] → length (keep (λ d. not (here d)) (leaves f 7 a)) + length (leaves f 7 (child f q)) ≤ 8
         → length (leaves f 8 b) ≤ 8 → Few
     bracket-few q only left right =
         let n : length (keep here (leaves f 7 a)) ≡ 1 = ap length only in
-        let s = leaves-some (child f q) in
+        let s = leaves-some f o 7 tt (child f q) in
         let m : length (leaves f 7 a) ≤ 8 = omega (arith, keep-split here (leaves f 7 a)) in
-        let few : all .count ≤ 8 = few-found all (leaves f 7 a) x m in
+        let few : all .count ≤ 8 = x .few m in
         let one : found .count ≡ 1 = found-all few .size ∙ n in
         let same : getD (found .items) 0 0 ≡ q = ap (λ (es : List ℕ). getD es 0 0) (sym (lone few one) ∙ only) in
-        let inner : r .inner .count ≤ length (leaves f 7 c) = omega (arith, u .size, length-take 9 (leaves f 7 c)) in
+        let inner : r .inner .count ≤ length (leaves f 7 c) = found-few (r .inner) (leaves f 7 c) u in
         let c-is : length (leaves f 7 c) ≡ length (leaves f 7 (child f q)) = ap (λ (d : ℕ). length (leaves f 7 d)) (named ∙ ap (child f) same) in
         let outer : r .outer .count ≡ length (keep (λ d. not (here d)) (leaves f 7 a)) = outer-all few .size in
-        (few, one, omega arith, few-found (r .right) (leaves f 8 b) v right)
+        (few, one, omega arith, v .few right)
 
     pub bracket-parts : Bracketed f k a b r
     unfolding shapeWith

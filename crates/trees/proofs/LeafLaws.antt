@@ -3,11 +3,12 @@
 -- Assumes nothing.
 use mathlib.Core.Path.{_≡_, refl, ap, ap₂, subst, sym, _∙_}
 use mathlib.Core.Logic.{inl, inr}
-use Prim.Native.Nat.{ℕ, zero, suc, _<_}
+use Prim.Native.Nat.{ℕ, zero, suc, _≤_, _<_}
+use native.Mathlib.Omega.{arith}
 use native.Mathlib.Nat.{not-suc-le-zero, le-of-suc-le-suc, le-refl, lt-of-lt-of-le}
 use mathlib.Core.Bool.{Bool, true, false, not, _&&_, _||_}
 use mathlib.Core.List.{List, [], _∷_, _++_}
-use lib.ListN.{getD}
+use lib.ListN.{length, getD, length-append}
 use lib.Dec.{T, eqb, eqb→eq, leb}
 use Rattle.task.specs.Reach.{every}
 use Rattle.task.proofs.Tests.{excluded}
@@ -90,6 +91,13 @@ module _ (f : File) (o : Ordered f) where
 
       pub by-tree : (e : ℕ) → P e
       by-tree e = up-to (suc e) e (le-refl (suc e))
+
+    -- a tree has a leaf
+    pub leaves-some : (e : ℕ) → 1 ≤ length (leaves f k e)
+    leaves-some =
+        by-tree (λ e. 1 ≤ length (leaves f k e))
+        (λ e t p q. rw (leaves-tree e t) (omega (arith, length-append (leaves f k (child f e)) (leaves f k (second (stateSetAt f e))), p)))
+        (λ e n. rw (leaves-leaf e n) (omega arith))
 
     -- a test of entries that goes by the leaves
     by-leaves : (t : ℕ → Bool) (op : Bool → Bool → Bool) (list : List ℕ → Bool)

@@ -1,7 +1,7 @@
--- Short lists of entries: one more entry, and the leaves of a tree, of which nine are enough.
+-- Short lists of entries: one more entry, and the leaves of a tree, found one after the other.
 -- Assumes nothing.
 use mathlib.Core.Path.{_≡_, refl, sym, ap, ap₂, _∙_, subst}
-use Prim.Native.Nat.{ℕ, zero, suc, _+_, _≤_, _<_}
+use Prim.Native.Nat.{ℕ, suc, _+_, _-_, _≤_, _<_}
 use native.Mathlib.Numerals.{add-one}
 use native.Mathlib.Omega.{arith}
 use mathlib.Core.Bool.{Bool, true, false, not, _&&_}
@@ -14,9 +14,9 @@ use Rattle.meaning.specs.File.{File, stateSetAt, second}
 use Rattle.meaning.proofs.Order.{Ordered}
 use Rattle.meaning.specs.Shapes.{keep, kindAt, child, leaves}
 use Rattle.trees.specs.declared.Leaves.{Leaves}
-use Rattle.trees.specs.Trees.{listOf, Sound, Lists, withWanted}
+use Rattle.trees.specs.Trees.{listOf, Sound, Lists, Found, withWanted}
 use Rattle.trees.proofs.Lists.{every-one, every-append, keep-cases}
-use Rattle.trees.proofs.LeafLaws.{TreeKind, earlier, leaves-tree, leaves-leaf}
+use Rattle.trees.proofs.LeafLaws.{TreeKind, leaves-some, leaves-tree, leaves-leaf}
 
 pub count-list : (x : Leaves) → Sound x → length (listOf x) ≡ x .count
 unfolding listOf
@@ -46,33 +46,118 @@ lists-more x s l e =
 
 -- ---- the leaves of a tree
 
--- nine of what is kept and more are nine of all
-take-again : (n : ℕ) (xs ys : List ℕ) → take n (take n xs ++ ys) ≡ take n (xs ++ ys)
-take-again zero xs ys = refl
-take-again (suc n) [] ys = refl
-take-again (suc n) (x ∷ xs) ys = ap (λ (zs : List ℕ). x ∷ zs) (take-again n xs ys)
+-- one entry more, where there is room
+pub added : (x y : Leaves) (e : ℕ) → Sound x → x .count < 9 → Lists y (take 9 (listOf x ++ e ∷ [])) → Lists y (listOf x ++ e ∷ [])
+added x y e s l h = subst (Lists y) (take-all 9 (listOf x ++ e ∷ []) (omega (arith, length-append (listOf x) (e ∷ []), count-list x s))) h
 
-module _ (f : File) (o : Ordered f) (k : ℕ) (tree : TreeKind k) (e : ℕ) (x z : Leaves) where
-  pub lists-leaf : T (not (eqb (kindAt f e) k)) → Lists z (take 9 (listOf x ++ e ∷ [])) → Lists z (take 9 (listOf x ++ leaves f k e))
-  lists-leaf n h = rw (leaves-leaf f o k tree e n) h
+-- a list without its last entry
+abbrev pub rest : Leaves → Leaves
+rest x = record { items = x .items; count = x .count - 1 }
 
-  -- the leaves of the first that it names, and then those of the second
-  pub lists-tree : (y : Leaves) (a b : ℕ) → a ≡ child f e → b ≡ second (stateSetAt f e) → T (eqb (kindAt f e) k)
-      → Lists y (take 9 (listOf x ++ leaves f k a)) → Lists z (take 9 (listOf y ++ leaves f k b)) → Lists z (take 9 (listOf x ++ leaves f k e))
-  lists-tree y a b p q t g h =
-      let s : take 9 (listOf y ++ leaves f k b) ≡ take 9 (listOf x ++ leaves f k e) =
-      ap (λ (es : List ℕ). take 9 (es ++ leaves f k b)) (g .same)
-      ∙ take-again 9 (listOf x ++ leaves f k a) (leaves f k b)
-      ∙ ap (take 9) (append-assoc (listOf x) (leaves f k a) (leaves f k b))
-      ∙ rw (p, q) (ap (λ (es : List ℕ). take 9 (listOf x ++ es)) (sym (leaves-tree f o k tree e t))) in
-      subst (Lists z) s h
+pub rest-sound : (x : Leaves) → Sound x → Sound (rest x)
+rest-sound x s = record { few = omega (arith, s .few); room = s .room }
 
--- an entry of the tree's kind, by its numbers, names earlier entries
-pub falls-first : (f : File) (o : Ordered f) (k : ℕ) (tree : TreeKind k) (e a : ℕ) → a ≡ child f e → T (eqb (kindAt f e) k) → a < e
-falls-first f o k tree e a p t = rw p (earlier f o k tree e t .0)
+rest-last : (x : Leaves) → Sound x → 0 < x .count → listOf x ≡ listOf (rest x) ++ getD (x .items) (x .count - 1) 0 ∷ []
+unfolding listOf
+rest-last x s l =
+    let n : suc (x .count - 1) ≡ x .count = omega arith in
+    ap (λ (k : ℕ). take k (x .items)) (sym n) ∙ take-suc (x .items) (x .count - 1) 0 (omega (arith, s .few, s .room))
 
-pub falls-second : (f : File) (o : Ordered f) (k : ℕ) (tree : TreeKind k) (e b : ℕ) → b ≡ second (stateSetAt f e) → T (eqb (kindAt f e) k) → b < e
-falls-second f o k tree e b p t = rw p (earlier f o k tree e t .1)
+module _ (f : File) (k : ℕ) where
+  -- the leaves of the entries that wait, of which the last comes first
+  abbrev pub unread : List ℕ → List ℕ
+  unread [] = []
+  unread (x ∷ xs) = unread xs ++ leaves f k x
+
+  unread-last : (xs : List ℕ) (x : ℕ) → unread (xs ++ x ∷ []) ≡ leaves f k x ++ unread xs
+  unread-last [] x = sym (append-nil (leaves f k x))
+  unread-last (y ∷ xs) x = ap (λ (zs : List ℕ). zs ++ leaves f k y) (unread-last xs x) ∙ append-assoc (leaves f k x) (unread xs) (leaves f k y)
+
+  -- what was found and what waits are all the leaves of e
+  pub record Walk (e : ℕ) (out waiting : Leaves) : Type 0 where
+    pub found : Sound out
+    pub waits : Sound waiting
+    pub room : out .count + waiting .count ≤ 9
+    pub whole : listOf out ++ unread (listOf waiting) ≡ leaves f k e
+
+module _ (f : File) (o : Ordered f) (k : ℕ) (tree : TreeKind k) (e : ℕ) where
+  unread-long : (xs : List ℕ) → length xs ≤ length (unread f k xs)
+  unread-long [] = omega arith
+  unread-long (x ∷ xs) = omega (arith, unread-long xs, leaves-some f o k tree x, length-append (unread f k xs) (leaves f k x))
+
+  pub walk-start : (out waiting : Leaves) → Lists out [] → Lists waiting (e ∷ []) → Walk f k e out waiting
+  walk-start out waiting h w = record {
+    found = h .sound;
+    waits = w .sound;
+    room = omega (arith, h .size, w .size);
+    whole = ap₂ (λ (xs ys : List ℕ). xs ++ unread f k ys) (h .same) (w .same);
+  }
+
+  module _ (out waiting : Leaves) (v : Walk f k e out waiting) where
+    -- nine are too many
+    pub walk-many : 9 ≤ out .count + waiting .count → (x : Leaves) → Sound x → x .count ≡ 9 → Found x (leaves f k e)
+    walk-many l x s n = record {
+      sound = s;
+      all = λ h. absurd (omega (arith, h, n));
+      few = λ h.
+          let m = ap length (v .whole) in
+          absurd (omega (arith, h, m, length-append (listOf out) (unread f k (listOf waiting)), unread-long (listOf waiting), count-list out (v .found), count-list waiting (v .waits)));
+    }
+
+    pub walk-end : waiting .count ≤ 0 → Found out (leaves f k e)
+    unfolding listOf
+    walk-end l =
+        let z : waiting .count ≡ 0 = omega arith in
+        let w : listOf out ≡ leaves f k e = sym (append-nil (listOf out)) ∙ ap (λ (n : ℕ). listOf out ++ unread f k (take n (waiting .items))) (sym z) ∙ v .whole in
+        let n : out .count ≡ length (leaves f k e) = sym (count-list out (v .found)) ∙ ap length w in
+        record { sound = v .found; all = λ _. record { sound = v .found; same = w; size = n }; few = λ h. omega (arith, h, n) }
+
+    module _ (some : 0 < waiting .count) (few : out .count + waiting .count < 9) where
+      abbrev head : ℕ
+      head = getD (waiting .items) (waiting .count - 1) 0
+
+      unread-head : unread f k (listOf waiting) ≡ leaves f k head ++ unread f k (listOf (rest waiting))
+      unread-head = ap (unread f k) (rest-last waiting (v .waits) some) ∙ unread-last f k (listOf (rest waiting)) head
+
+      -- the next entry is a leaf
+      pub walk-leaf : T (not (eqb (kindAt f head) k)) → (more : Leaves) → Lists more (take 9 (listOf out ++ head ∷ [])) → (more .count ≡ out .count + 1) × Walk f k e more (rest waiting)
+      walk-leaf n more h =
+          let g = added out more head (v .found) (omega arith) h in
+          let c : more .count ≡ out .count + 1 = omega (arith, g .size, length-append (listOf out) (head ∷ []), count-list out (v .found)) in (
+            c,
+            record {
+              found = g .sound;
+              waits = rest-sound waiting (v .waits);
+              room = omega (arith, c, v .room);
+              whole =
+                  ap (λ (xs : List ℕ). xs ++ unread f k (listOf (rest waiting))) (g .same)
+                  ∙ append-assoc (listOf out) (head ∷ []) (unread f k (listOf (rest waiting)))
+                  ∙ ap (λ (xs : List ℕ). listOf out ++ (xs ++ unread f k (listOf (rest waiting)))) (sym (leaves-leaf f o k tree head n))
+                  ∙ ap (λ (xs : List ℕ). listOf out ++ xs) (sym unread-head)
+                  ∙ v .whole;
+            },
+          )
+
+      -- the next entry is of the tree's kind, and the two that it names wait in its place
+      pub walk-tree : T (eqb (kindAt f head) k) → (a b : ℕ) → a ≡ child f head → b ≡ second (stateSetAt f head)
+          → (more both : Leaves) → Lists more (take 9 (listOf (rest waiting) ++ b ∷ [])) → Lists both (take 9 (listOf more ++ a ∷ []))
+          → (both .count ≡ waiting .count + 1) × Walk f k e out both
+      walk-tree t a b p q more both h i =
+          let r = rest-sound waiting (v .waits) in
+          let g = added (rest waiting) more b r (omega (arith, v .room)) h in
+          let m : more .count ≡ waiting .count = omega (arith, g .size, length-append (listOf (rest waiting)) (b ∷ []), count-list (rest waiting) r) in
+          let j = added more both a (g .sound) (omega arith) i in
+          let c : both .count ≡ waiting .count + 1 = omega (arith, j .size, length-append (listOf more) (a ∷ []), count-list more (g .sound), m) in
+          let s : unread f k (listOf both) ≡ unread f k (listOf waiting) =
+          ap (unread f k) (j .same) ∙ unread-last f k (listOf more) a
+          ∙ ap (λ (xs : List ℕ). leaves f k a ++ unread f k xs) (g .same)
+          ∙ ap (λ (xs : List ℕ). leaves f k a ++ xs) (unread-last f k (listOf (rest waiting)) b)
+          ∙ sym (append-assoc (leaves f k a) (leaves f k b) (unread f k (listOf (rest waiting))))
+          ∙ rw (p, q) (ap (λ (xs : List ℕ). xs ++ unread f k (listOf (rest waiting))) (sym (leaves-tree f o k tree head t)))
+          ∙ sym unread-head in (
+            c,
+            record { found = v .found; waits = j .sound; room = omega (arith, c); whole = ap (λ (xs : List ℕ). listOf out ++ xs) s ∙ v .whole },
+          )
 
 -- ---- going through a list
 

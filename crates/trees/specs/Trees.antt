@@ -52,6 +52,12 @@ pub record Lists (x : Leaves) (es : List ℕ) : Type 0 where
   pub same : listOf x ≡ es
   pub size : x .count ≡ length es
 
+-- it lists these where it has at most eight, and it has where there are
+pub record Found (x : Leaves) (es : List ℕ) : Type 0 where
+  pub sound : Sound x
+  pub all : x .count ≤ 8 → Lists x es
+  pub few : length es ≤ 8 → x .count ≤ 8
+
 -- one entry more, nine at most, if it is wanted
 unfoldable pub withWanted : List ℕ → ℕ → Bool → List ℕ
 withWanted es e want = elim want [ true ↦ take 9 (es ++ e ∷ []) | false ↦ es ]

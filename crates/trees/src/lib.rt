@@ -11,7 +11,7 @@ ghost use lib.Dec.{T, eqb};
 ghost use Rattle.certificate.specs.Known.{Known, decoded};
 ghost use Rattle.task.specs.Reach.{every};
 ghost use Rattle.meaning.specs.Shapes.{keep, leaves};
-ghost use Rattle.trees.specs.Trees.{listing, naming, nodeOf, nodeAt, listOf, Sound, Lists, withWanted, hasKind, basicOr};
+ghost use Rattle.trees.specs.Trees.{listing, naming, nodeOf, nodeAt, listOf, Sound, Lists, Found, withWanted, hasKind, basicOr};
 
 // An entry's kind, the place and count of its items, and the two entries that it names; 0 for what it lacks.
 pub struct Node {
@@ -95,24 +95,6 @@ fn with(xs: Leaves, e: u16) -> Leaves
     }
 }
 
-// The leaves of the tree of entries of kind k at entry e, after those that there are; nine are enough.
-fn collect(file: &[u8], at: Places, index: &[u16; 768], k: u8, e: u16, xs: Leaves) -> Leaves
-    requires { ⌜ Known (now file) at (now index) ⌝ }
-    requires { ⌜ T (eqb k 7 || eqb k 8) ⌝ }
-    requires { ⌜ Sound xs ⌝ }
-    ensures { λ r. ⌜ Lists r (take 9 (listOf xs ++ leaves (decoded (now (file .entry))) k e)) ⌝ }
-{
-    if 9 <= xs.count {
-        return xs;
-    }
-    let x = node_at(file, at, index, e);
-    if x.kind != k {
-        return with(xs, e);
-    }
-    let ys = collect(file, at, index, k, x.first, xs);
-    collect(file, at, index, k, x.second, ys)
-}
-
 // No entries.
 pub fn none() -> Leaves
     ensures { λ r. ⌜ Lists r [] ⌝ }
@@ -130,13 +112,36 @@ pub fn one(e: u16) -> Leaves
     with(none(), e)
 }
 
-// The first nine leaves of the tree of entries of kind k at entry e.
+// The leaves of the tree of entries of kind k at entry e, where there are at most eight; else nine entries, whichever.
+// What is still to be looked at waits in a list, the next entry last. Each that waits has a leaf, so nine in all are too many.
 pub fn tree(file: &[u8], at: Places, index: &[u16; 768], k: u8, e: u16) -> Leaves
     requires { ⌜ Known (now file) at (now index) ⌝ }
     requires { ⌜ T (eqb k 7 || eqb k 8) ⌝ }
-    ensures { λ r. ⌜ Lists r (take 9 (leaves (decoded (now (file .entry))) k e)) ⌝ }
+    ensures { λ r. ⌜ Found r (leaves (decoded (now (file .entry))) k e) ⌝ }
 {
-    collect(file, at, index, k, e, none())
+    let mut out = none();
+    let mut waiting = one(e);
+    while 0 < waiting.count {
+        if 9 <= out.count + waiting.count {
+            return Leaves {
+                items: [0; 9],
+                count: 9,
+            };
+        }
+        let items = waiting.items;
+        let count = waiting.count - 1;
+        let d = items[count as usize];
+        let rest = Leaves { items, count };
+        let x = node_at(file, at, index, d);
+        if x.kind == k {
+            let more = with(rest, x.second);
+            waiting = with(more, x.first);
+            continue;
+        }
+        out = with(out, d);
+        waiting = rest;
+    }
+    out
 }
 
 // One entry more if it is wanted.
