@@ -9,7 +9,7 @@ use mathlib.Core.Bool.{Bool, true, false, _||_, or-assoc, or-false}
 use mathlib.Core.List.{List, [], _∷_}
 use lib.Dec.{eqb, ltb}
 use borrow.Author.Tests.{eq-eqb, ne-eqb, lt-ltb, le-ltb}
-use Rattle.certificate.specs.Views.{numberAt}
+use Rattle.bytes.specs.Numbers.{numberAt}
 use Rattle.meaning.specs.Sets.{someBelow}
 use Rattle.actions.specs.Marks.{marked, Marks, listedIn}
 use Rattle.actions.proofs.MarkLaws.{no-marks}

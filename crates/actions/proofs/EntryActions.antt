@@ -16,7 +16,8 @@ use Rattle.certificate.specs.declared.Span.{Span}
 use Rattle.certificate.specs.declared.ActionEntry.{ActionEntry}
 use Rattle.certificate.specs.declared.ActionEntry.the-variants.{All, Listed, Either}
 use Rattle.meaning.specs.File.{ActionSet, all, listed, either, File, actionSetAt}
-use Rattle.certificate.specs.Views.{numberAt, viewOfActions}
+use Rattle.certificate.specs.Views.{viewOfActions}
+use Rattle.bytes.specs.Numbers.{numberAt}
 use Rattle.meaning.specs.Writing.{AllFrom, FitsActionSet}
 use Rattle.certificate.specs.Known.{Known, decoded, actionPlace}
 use Rattle.certificate.proofs.ItemLaws.{Items}

@@ -8,7 +8,7 @@ use mathlib.Core.List.{List}
 use lib.ListN.{getD}
 use lib.Dec.{T, eqb}
 use Rattle.meaning.specs.File.{File}
-use Rattle.certificate.specs.Views.{numberAt}
+use Rattle.bytes.specs.Numbers.{numberAt}
 use Rattle.meaning.specs.Sets.{someBelow, inActions}
 use Rattle.task.specs.Inner.{has}
 

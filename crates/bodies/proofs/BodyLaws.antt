@@ -13,7 +13,7 @@ use Rattle.bodies.specs.declared.Verdict.{Verdict}
 use Rattle.bodies.specs.declared.Verdict.the-variants.{Fine, Refused}
 use Rattle.meaning.specs.declared.Clause.{Clause}
 use Rattle.meaning.specs.Result.{Result, refuse, found}
-use Rattle.certificate.specs.Views.{numberAt}
+use Rattle.bytes.specs.Numbers.{numberAt}
 use Rattle.meaning.specs.Layout.{items, ascending, mask, clause}
 use Rattle.bodies.specs.Verdicts.{verdictFrom, ruleOf, formFits, formBody}
 use Rattle.bodies.proofs.Verdicts.{forget, from-fine, from-refused, none-yet, items-next, items-stop, items-end, ascending-next, ascending-stop, ascending-low, ascending-end}

@@ -13,10 +13,10 @@ use Rattle.bodies.specs.declared.Verdict.{Verdict}
 use Rattle.bodies.specs.declared.Verdict.the-variants.{Refused}
 use Rattle.meaning.specs.Result.{Result, refuse, found, _>>=_, known}
 use Rattle.meaning.specs.Bytes.{number, inside}
-use Rattle.certificate.specs.Views.{numberAt}
+use Rattle.bytes.specs.Numbers.{numberAt}
 use Rattle.meaning.specs.Layout.{Kind, field, entry}
 use Rattle.bodies.specs.Verdicts.{verdict, verdictFrom, formKnown, formFits, formBody, formAt}
-use Rattle.certificate.proofs.ByteLaws.{inside-out, number-in}
+use Rattle.bytes.proofs.ByteLaws.{inside-out, number-in}
 use Rattle.bodies.proofs.Verdicts.{forget, told, told-refused, goes-on, stops, passed, failed}
 use Rattle.bodies.proofs.FieldLaws.{field-in}
 use Rattle.bodies.proofs.FormLaws.{Same, Alike, no-kind, kind-of}

@@ -9,9 +9,9 @@ use lib.Dec.{leb, ltb}
 use borrow.Author.Tests.{le-leb, lt-leb, lt-ltb, le-ltb, not-true}
 use Rattle.meaning.specs.Result.{refuse, found}
 use Rattle.meaning.specs.Bytes.{inside}
-use Rattle.certificate.specs.Views.{numberAt}
+use Rattle.bytes.specs.Numbers.{numberAt}
 use Rattle.meaning.specs.Layout.{field, mask, reference, clause}
-use Rattle.certificate.proofs.ByteLaws.{inside-in, number-in}
+use Rattle.bytes.proofs.ByteLaws.{inside-in, number-in}
 use Rattle.bodies.proofs.Verdicts.{goes-on, stops, passed, failed}
 
 -- `top` is the largest mask over n facts, among words

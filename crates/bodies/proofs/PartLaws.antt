@@ -16,7 +16,7 @@ use Rattle.meaning.specs.Result.{Result, refuse, found, _>>=_, need}
 use Rattle.meaning.specs.Bytes.{bigEndian, number}
 use Rattle.meaning.specs.Layout.{items, ascending, field, mask, reference, clause}
 use Rattle.bodies.specs.Verdicts.{verdict, verdictFrom, ruleOf, formFits, formBody}
-use Rattle.certificate.proofs.ByteLaws.{inside-in}
+use Rattle.bytes.proofs.ByteLaws.{inside-in}
 use Rattle.bodies.proofs.Verdicts.{passed}
 
 -- a reading, with the place of its refusal moved by d

@@ -1,6 +1,6 @@
 // One entry: its length, its kind and its body, with replies 3 to 7 at the written places and in the written order.
-use certificate::bytes::u16_at;
-use certificate::bytes::u64_at;
+use bytes::u16_at;
+use bytes::u64_at;
 use reader::entry_head;
 ghost use mathlib.Core.Path.{_≡_};
 ghost use mathlib.Core.Bool.{true};

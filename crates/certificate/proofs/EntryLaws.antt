@@ -14,10 +14,11 @@ use Rattle.meaning.specs.Result.{Result, found, _>>=_, known}
 use Rattle.meaning.specs.Bytes.{number, inside}
 use Rattle.meaning.specs.File.{ActionSet, all, listed, either, Basic, empty, init, goal, explicit, horn, twoCnf, StateSet, basic, complement, intersection, union, progression, regression}
 use Rattle.meaning.specs.Layout.{items, ascending, field, mask, reference, clause, Kind, plain, upTo, one, two, clauses, actionKinds, stateKinds, hornRule, twoCnfRule, entry}
-use Rattle.certificate.specs.Views.{numberAt, stateEntryAt, actionEntryAt, span, viewOfBasic, viewOf, viewOfActions}
+use Rattle.certificate.specs.Views.{stateEntryAt, actionEntryAt, span, viewOfBasic, viewOf, viewOfActions}
+use Rattle.bytes.specs.Numbers.{numberAt}
 use Rattle.certificate.specs.Index.{headAt, stateTable, stateOf, actionTable, actionsOf, clauseAt}
 use Rattle.meaning.proofs.Results.{found-same, bind-case, need-case, known-out}
-use Rattle.certificate.proofs.NumberLaws.{number-at}
+use Rattle.bytes.proofs.ByteLaws.{number-in}
 use Rattle.certificate.proofs.TableLaws.{state-here, actions-here}
 use Rattle.certificate.proofs.ItemLaws.{Items, Stands, items-stand, ascending-items, field-stands, mask-stands, reference-stands, clause-stands}
 
@@ -78,7 +79,7 @@ module _ {A : Type 0} (bytes : List ℕ) where
       let h = field-stands bytes 2 p len len! in
       let some-len : 1 ≤ len = leb→le 1 len l in
       let in-file : p + (2 + len) ≤ length bytes = leb→le (p + (2 + len)) (length bytes) i in
-      let kind : number 1 bytes (p + 2) ≡ numberAt 1 bytes (p + 2) = sym (number-at 1 bytes (p + 2) (omega arith)) in
+      let kind : number 1 bytes (p + 2) ≡ numberAt 1 bytes (p + 2) = sym (number-in 1 bytes (p + 2) (omega arith)) in
       let z : 0 + number 1 bytes (p + 2) ≡ number 1 bytes (p + 2) = omega arith in
       let says = say-at P 0 ks s (number 1 bytes (p + 2)) k (known-out (getElem? ks (number 1 bytes (p + 2))) 4 (p + 2) k k!) p (len - 1) x (omega arith) t q in
       subst (λ (n : ℕ). (1 ≤ n) × (p + 2 + n ≤ length bytes) × P (numberAt 1 bytes (p + 2)) p (n - 1) x) (sym (h .1))

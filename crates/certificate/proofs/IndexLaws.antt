@@ -9,7 +9,8 @@ use lib.ListN.{length, getD, set, length-set}
 use lib.Seq.{getD-set-same, getD-set-other}
 use borrow.Author.Count.{below-more}
 use Rattle.certificate.specs.declared.Places.{Places}
-use Rattle.certificate.specs.Views.{numberAt, afterEntry, entryPlace}
+use Rattle.certificate.specs.Views.{afterEntry, entryPlace}
+use Rattle.bytes.specs.Numbers.{numberAt}
 use Rattle.certificate.specs.Index.{capped, Indexed, Index}
 
 -- one entry more

@@ -12,10 +12,10 @@ use Rattle.meaning.specs.Result.{Result, found}
 use Rattle.meaning.specs.Bytes.{inside}
 use Rattle.meaning.specs.File.{Step}
 use Rattle.meaning.specs.Layout.{items, ascending, field, count, mask, reference, action, clause, step}
-use Rattle.certificate.specs.Views.{numberAt}
+use Rattle.bytes.specs.Numbers.{numberAt}
 use Rattle.certificate.specs.Index.{actionIn, clauseAt}
 use Rattle.meaning.proofs.Results.{found-same, bind-case, bind-in, need-case}
-use Rattle.certificate.proofs.NumberLaws.{number-at}
+use Rattle.bytes.proofs.ByteLaws.{number-in}
 
 -- the items stand from place p on, `size` bytes each, all within the file
 pub record Items {A : Type 0} (bytes : List ℕ) (size : ℕ) (at : ℕ → A) (p : ℕ) (xs : List A) : Type 0 where
@@ -72,7 +72,7 @@ module _ (bytes : List ℕ) where
   field-stands k p x e =
       need-case (inside k bytes p) 3 p _ x e λ t q.
       let l : p + k ≤ length bytes = leb→le (p + k) (length bytes) t in
-      (l, number-at k bytes p l ∙ found-same q)
+      (l, number-in k bytes p l ∙ found-same q)
 
   pub mask-stands : (n : ℕ) → Stands bytes 8 (numberAt 8 bytes) (mask bytes n)
   unfolding mask
@@ -131,11 +131,11 @@ module _ (bytes : List ℕ) where
   step-stands p x e =
       need-case (inside 12 bytes p) 3 p _ x e λ t q.
       let l : p + 12 ≤ length bytes = leb→le (p + 12) (length bytes) t in
-      let n₀ = number-at 1 bytes p (omega arith) in
-      let n₁ = number-at 1 bytes (p + 1) (omega arith) in
-      let n₂ = number-at 2 bytes (p + 2) (omega arith) in
-      let n₄ = number-at 2 bytes (p + 4) (omega arith) in
-      let n₆ = number-at 2 bytes (p + 6) (omega arith) in
-      let n₈ = number-at 2 bytes (p + 8) (omega arith) in
-      let m = number-at 2 bytes (p + 10) (omega arith) in
+      let n₀ = number-in 1 bytes p (omega arith) in
+      let n₁ = number-in 1 bytes (p + 1) (omega arith) in
+      let n₂ = number-in 2 bytes (p + 2) (omega arith) in
+      let n₄ = number-in 2 bytes (p + 4) (omega arith) in
+      let n₆ = number-in 2 bytes (p + 6) (omega arith) in
+      let n₈ = number-in 2 bytes (p + 8) (omega arith) in
+      let m = number-in 2 bytes (p + 10) (omega arith) in
       (l, cc)

@@ -1,5 +1,3 @@
-pub mod ByteLaws
-pub mod NumberLaws
 pub mod TableLaws
 pub mod IndexLaws
 pub mod ItemLaws

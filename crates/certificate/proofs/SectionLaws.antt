@@ -14,7 +14,7 @@ use Rattle.certificate.specs.Views.{afterEntry, entryPlace, placesOf}
 use Rattle.certificate.specs.Index.{actionIn}
 use Rattle.meaning.proofs.Reading.{task-walked, file-walked}
 use Rattle.meaning.proofs.Results.{found-same, bind-case}
-use Rattle.certificate.proofs.NumberLaws.{number-at}
+use Rattle.bytes.proofs.ByteLaws.{number-in}
 use Rattle.certificate.proofs.ItemLaws.{Items, items-stand, count-stands, action-stands, stepRead, step-stands}
 use Rattle.certificate.proofs.EntryLaws.{StateSetStands, ActionSetStands, Ends, state-set-stands, action-set-stands}
 
@@ -58,7 +58,7 @@ module _ {A : Type 0} (bytes : List ℕ) (S : ℕ → A → Type 0) where
         bind-case (entry bytes (kinds i) p) _ r e λ x x! e₁.
         bind-case (entries bytes kinds (suc i) (p + 2 + number 2 bytes p) k) _ r e₁ λ s s! q.
         let a = stands i p x x! in
-        let n : p + 2 + number 2 bytes p ≡ afterEntry bytes p = ap (λ (m : ℕ). p + 2 + m) (sym (number-at 2 bytes p (omega arith))) in
+        let n : p + 2 + number 2 bytes p ≡ afterEntry bytes p = ap (λ (m : ℕ). p + 2 + m) (sym (number-in 2 bytes p (omega arith))) in
         let h = entries-stand k (suc i) (afterEntry bytes p) s (a .0) (ap (λ (m : ℕ). entries bytes kinds (suc i) m k) (sym n) ∙ s!) in
         subst (λ (z : List A × ℕ). (length (z .0) ≡ suc k) × (z .1 ≡ entryPlace bytes p (length (z .0))) × Entries bytes S p (z .0)) (found-same q) (
           ap suc (h .0),

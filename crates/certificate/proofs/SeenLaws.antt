@@ -11,7 +11,8 @@ use Rattle.certificate.specs.declared.ActionEntry.the-variants.{All, Lis
 use Rattle.certificate.specs.declared.StateEntry.{StateEntry}
 use Rattle.certificate.specs.declared.StateEntry.the-variants.{Empty, Init, Goal, Explicit, Horn, TwoCnf, Complement, Intersection, Union, Progression, Regression}
 use Rattle.meaning.specs.File.{ActionSet, all, listed, either, Basic, empty, init, goal, explicit, horn, twoCnf, StateSet, basic, complement, intersection, union, progression, regression}
-use Rattle.certificate.specs.Views.{numberAt, actionEntryAt, span, viewOfBasic, viewOf, viewOfActions}
+use Rattle.certificate.specs.Views.{actionEntryAt, span, viewOfBasic, viewOf, viewOfActions}
+use Rattle.bytes.specs.Numbers.{numberAt}
 use Rattle.certificate.specs.Index.{clauseAt}
 use Rattle.certificate.proofs.ItemLaws.{Items}
 use Rattle.certificate.proofs.EntryLaws.{BasicItems, StateItems, ActionItems, ActionSetStands}

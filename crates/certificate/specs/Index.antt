@@ -15,7 +15,8 @@ use Rattle.certificate.specs.declared.Step as code
 use Rattle.certificate.specs.declared.views.Head.{Head}
 use Rattle.certificate.specs.declared.views.Fields.{Fields}
 use Rattle.meaning.specs.File.{Step}
-use Rattle.certificate.specs.Views.{numberAt, entryPlace, judgementOf}
+use Rattle.certificate.specs.Views.{entryPlace, judgementOf}
+use Rattle.bytes.specs.Numbers.{numberAt}
 
 -- ---- entries
 

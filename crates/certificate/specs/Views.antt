@@ -1,7 +1,6 @@
 -- What the code is given of a file: where the parts are, and an entry or a step as a value, with the places of its items.
 -- Assumes nothing.
 use Prim.Native.Nat.{ℕ, zero, suc, _+_, _-_, _*_, _/_}
-use mathlib.Core.Bool.{true, false}
 use mathlib.Core.List.{List, [], _∷_}
 use lib.ListN.{length, getD}
 use Rattle.certificate.specs.declared.Places.{Places}
@@ -15,13 +14,9 @@ use Rattle.certificate.specs.declared.StateEntry.the-variants.{Empty, In
 use Rattle.certificate.specs.declared.Judgement.{Judgement}
 use Rattle.certificate.specs.declared.Judgement.the-variants.{Dead, Within, ActionsWithin, Unsolvable}
 use Rattle.meaning.specs.Result.{Result, refuse, found}
-use Rattle.meaning.specs.Bytes.{number, inside}
 use Rattle.meaning.specs.File.{ActionSet, all, listed, either, Basic, empty, init, goal, explicit, horn, twoCnf, StateSet, basic, complement, intersection, union, progression, regression, File}
 use Rattle.meaning.specs.Layout.{readFile}
-
--- the number in the k bytes from place p, and 0 where they run past the end
-unfoldable pub numberAt : ℕ → List ℕ → ℕ → ℕ
-numberAt k bytes p = elim (inside k bytes p) [ true ↦ number k bytes p | false ↦ 0 ]
+use Rattle.bytes.specs.Numbers.{numberAt}
 
 -- the place after the entry at place p
 unfoldable pub afterEntry : List ℕ → ℕ → ℕ

@@ -1,6 +1,5 @@
 // The file as it stands in memory: its numbers, the places of its parts, and its entries and steps as values.
 
-pub mod bytes;
 pub mod known;
 pub mod views;
 

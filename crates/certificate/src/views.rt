@@ -5,16 +5,17 @@ use crate::Places;
 use crate::Span;
 use crate::StateEntry;
 use crate::Step;
-use crate::bytes::byte_at;
-use crate::bytes::byte_in;
-use crate::bytes::u16_at;
-use crate::bytes::u16_in;
-use crate::bytes::u64_at;
+use bytes::byte_at;
+use bytes::byte_in;
+use bytes::u16_at;
+use bytes::u16_in;
+use bytes::u64_at;
 use task::Action;
 ghost use mathlib.Core.Path.{_≡_};
 ghost use Prim.Native.Nat.{_+_, _-_, _*_, _≤_};
 ghost use lib.ListN.{length, getD};
-ghost use Rattle.certificate.specs.Views.{numberAt, stateEntryAt, actionEntryAt, judgementOf};
+ghost use Rattle.certificate.specs.Views.{stateEntryAt, actionEntryAt, judgementOf};
+ghost use Rattle.bytes.specs.Numbers.{numberAt};
 ghost use Rattle.certificate.specs.Index.{headAt, stateOf, actionsOf, fieldsAt, stepOf, actionIn, capped, Indexed, Index};
 
 // The numbers of an entry: its kind, where its body starts and how long it is, and the two numbers that start the body.

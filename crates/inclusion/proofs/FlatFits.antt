@@ -14,7 +14,8 @@ use Rattle.certificate.specs.declared.Places.{Places}
 use Rattle.meaning.specs.File.{File, basicKind, Basic, empty, init, goal, explicit, horn, twoCnf}
 use Rattle.certificate.specs.Index as places
 use Rattle.meaning.specs.Layout.{hornRule, twoCnfRule}
-use Rattle.certificate.specs.Views.{numberAt, viewOfBasic, span}
+use Rattle.certificate.specs.Views.{viewOfBasic, span}
+use Rattle.bytes.specs.Numbers.{numberAt}
 use Rattle.certificate.specs.Known.{Known, decoded, statePlace}
 use Rattle.meaning.specs.Writing.{Ascending, FitsAction, FitsClauses, FitsBasic}
 use Rattle.meaning.proofs.Order as order

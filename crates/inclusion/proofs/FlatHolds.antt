@@ -15,7 +15,8 @@ use Rattle.task.specs.Reach.{member, every}
 use Rattle.meaning.specs.declared.Clause.{Clause}
 use Rattle.certificate.specs.declared.Places.{Places}
 use Rattle.meaning.specs.File.{File, stateSetAt, stateKind, basicKind, Basic, empty, init, goal, explicit, horn, twoCnf, basic}
-use Rattle.certificate.specs.Views.{numberAt, span, viewOf, viewOfBasic}
+use Rattle.certificate.specs.Views.{span, viewOf, viewOfBasic}
+use Rattle.bytes.specs.Numbers.{numberAt}
 use Rattle.certificate.specs.Index as places
 use Rattle.certificate.specs.Known.{Known, decoded, statePlace}
 use Rattle.meaning.specs.Writing.{FitsBasic, FitsStateSet}

@@ -18,12 +18,13 @@ use Rattle.layout.specs.declared.Rest.the-variants.{After as Both, Refus
 use Rattle.meaning.specs.Result.{Result, refuse, found}
 use Rattle.meaning.specs.Bytes.{number}
 use Rattle.meaning.specs.File.{File}
-use Rattle.certificate.specs.Views.{numberAt, outlineTo, outlineOf}
+use Rattle.certificate.specs.Views.{outlineTo, outlineOf}
+use Rattle.bytes.specs.Numbers.{numberAt}
 use Rattle.meaning.specs.Layout.{count, readTask, readFile}
 use Rattle.bodies.specs.Verdicts.{verdict}
 use Rattle.layout.specs.Sections.{rest, sectionAt, stepsAt, restAt}
 use Rattle.meaning.proofs.Results.{bind-case, found-same}
-use Rattle.certificate.proofs.ByteLaws.{number-in}
+use Rattle.bytes.proofs.ByteLaws.{number-in}
 use Rattle.bodies.proofs.Verdicts.{found-of, refused-of, goes-on, stops, passed, failed}
 use Rattle.layout.proofs.SectionChecks.{count-is}
 use Rattle.layout.proofs.OutlineLaws.{TaskIs, task-is, Agree, refusals, values, start, later, tail, placed, Placed, tail-agrees}

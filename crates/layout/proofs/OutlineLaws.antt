@@ -12,7 +12,8 @@ use Rattle.certificate.specs.declared.Places.{Places}
 use Rattle.meaning.specs.Result.{Result, refuse, found, _>>=_, need}
 use Rattle.meaning.specs.Bytes.{number}
 use Rattle.meaning.specs.File.{File, ActionSet, StateSet, Step}
-use Rattle.certificate.specs.Views.{numberAt, afterEntry, entryPlace, placesOf}
+use Rattle.certificate.specs.Views.{afterEntry, entryPlace, placesOf}
+use Rattle.bytes.specs.Numbers.{numberAt}
 use Rattle.meaning.specs.Layout.{items, field, count, mask, action, step, Kind, actionKinds, stateKinds, entry, entries, readTask}
 use Rattle.meaning.specs.Writing.{FitsAction}
 use Rattle.bodies.specs.Verdicts.{verdict}
@@ -20,7 +21,7 @@ use Rattle.layout.specs.Sections.{sectionAt, stepsAt, restAt}
 use Rattle.meaning.proofs.Reading.{task-walked}
 use Rattle.meaning.proofs.Results.{bind-case, need-case, found-same}
 use Rattle.meaning.proofs.Given.{action-gives, items-give, action-sets-give, state-sets-give}
-use Rattle.certificate.proofs.ByteLaws.{number-in}
+use Rattle.bytes.proofs.ByteLaws.{number-in}
 use Rattle.layout.proofs.SectionChecks.{field-is, count-is, entry-fine}
 
 -- ---- where the entries end

@@ -12,7 +12,7 @@ use Rattle.layout.specs.declared.Walk.the-variants.{After, Refused as St
 use Rattle.layout.specs.declared.Rest.the-variants.{After as Both, Refused as Ended}
 use Rattle.bodies.specs.declared.Section.{Section}
 use Rattle.meaning.specs.Result.{Result, refuse, found}
-use Rattle.certificate.specs.Views.{numberAt}
+use Rattle.bytes.specs.Numbers.{numberAt}
 use Rattle.bodies.specs.Verdicts.{verdict}
 use Rattle.layout.specs.Sections.{walk, rest, sectionAt, stepsAt, restAt}
 use Rattle.bodies.proofs.Verdicts.{found-of, refused-of, goes-on, stops}

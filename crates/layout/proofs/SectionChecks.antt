@@ -15,13 +15,13 @@ use Rattle.layout.specs.declared.Walk.the-variants.{After, Refused as St
 use Rattle.bodies.specs.declared.Section.{Section}
 use Rattle.meaning.specs.Result.{Result, refuse, found, _>>=_}
 use Rattle.meaning.specs.Bytes.{number, inside}
-use Rattle.certificate.specs.Views.{numberAt}
+use Rattle.bytes.specs.Numbers.{numberAt}
 use Rattle.meaning.specs.File.{Step}
 use Rattle.meaning.specs.Layout.{items, field, count, step, Kind, entry, entries}
 use Rattle.bodies.specs.Verdicts.{verdict, setsOf}
 use Rattle.layout.specs.Sections.{walk, sectionAt, stepsAt}
 use Rattle.meaning.proofs.Results.{bind-case, need-case, found-same}
-use Rattle.certificate.proofs.ByteLaws.{inside-in, inside-past, inside-out, number-in}
+use Rattle.bytes.proofs.ByteLaws.{inside-in, inside-past, inside-out, number-in}
 use Rattle.bodies.proofs.Verdicts.{forget, told-fine, told-refused, found-of, refused-of, goes-on, stops, passed, failed, forget-after, none-yet}
 use Rattle.bodies.proofs.FieldLaws.{field-in}
 use Rattle.task.proofs.Tests.{is-true}

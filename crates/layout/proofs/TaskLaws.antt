@@ -12,10 +12,10 @@ use Rattle.bodies.specs.declared.Verdict.{Verdict}
 use Rattle.bodies.specs.declared.Verdict.the-variants.{Fine, Refused}
 use Rattle.meaning.specs.Result.{Result, refuse, found, _>>=_}
 use Rattle.meaning.specs.Bytes.{inside}
-use Rattle.certificate.specs.Views.{numberAt}
+use Rattle.bytes.specs.Numbers.{numberAt}
 use Rattle.meaning.specs.Layout.{items, field, count, mask, action, readTask}
 use Rattle.bodies.specs.Verdicts.{verdict}
-use Rattle.certificate.proofs.ByteLaws.{inside-out}
+use Rattle.bytes.proofs.ByteLaws.{inside-out}
 use Rattle.bodies.proofs.Verdicts.{forget, told, told-refused, refused-of, goes-on, stops, passed, failed, forget-after}
 use Rattle.bodies.proofs.FieldLaws.{field-in}
 use Rattle.layout.proofs.SectionChecks.{count-found}

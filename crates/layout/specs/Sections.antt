@@ -11,7 +11,7 @@ use Rattle.layout.specs.declared.Rest.{Rest}
 use Rattle.layout.specs.declared.Rest.the-variants.{After as Both, Refused as Ended}
 use Rattle.bodies.specs.declared.Section.{Section}
 use Rattle.meaning.specs.Result.{Result, refuse, found, _>>=_, need}
-use Rattle.certificate.specs.Views.{numberAt}
+use Rattle.bytes.specs.Numbers.{numberAt}
 use Rattle.meaning.specs.File.{Step}
 use Rattle.meaning.specs.Layout.{items, count, step, entries}
 use Rattle.bodies.specs.Verdicts.{setsOf}

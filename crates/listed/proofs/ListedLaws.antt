@@ -12,7 +12,7 @@ use lib.ListN.{length}
 use lib.Dec.{T, eqb}
 use borrow.Author.Tests.{eq-eqb, ne-eqb}
 use Rattle.task.proofs.Tests.{is-true}
-use Rattle.certificate.specs.Views.{numberAt}
+use Rattle.bytes.specs.Numbers.{numberAt}
 use Rattle.meaning.specs.Sets.{allBelow, someBelow, meets}
 use Rattle.propagation.specs.Clauses.{clauseAt}
 use Rattle.listed.specs.Listed.{leafHolds, InOrderAt}

@@ -12,10 +12,10 @@ use lib.ListN.{length}
 use lib.Dec.{T, ltb, lt→ltb, ltb→lt}
 use Rattle.task.specs.Reach.{member}
 use Rattle.task.proofs.Tests.{is-true, member-none, member-first, member-rest, member-cases}
-use Rattle.certificate.specs.Views.{numberAt}
+use Rattle.bytes.specs.Numbers.{numberAt}
 use Rattle.meaning.specs.Writing.{Ascending}
 use Rattle.meaning.specs.Bytes.{number}
-use Rattle.certificate.proofs.ByteLaws.{number-in}
+use Rattle.bytes.proofs.ByteLaws.{number-in}
 use Rattle.listed.specs.Listed.{statesAt}
 
 -- a test that cannot pass

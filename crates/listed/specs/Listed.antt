@@ -10,7 +10,7 @@ use Rattle.task.specs.declared.Action.{Action}
 use Rattle.task.specs.Facts.{allOn}
 use Rattle.task.specs.Task.{applies}
 use Rattle.task.specs.Reach.{member}
-use Rattle.certificate.specs.Views.{numberAt}
+use Rattle.bytes.specs.Numbers.{numberAt}
 use Rattle.meaning.specs.Writing.{Ascending}
 use Rattle.meaning.specs.Sets.{allBelow, meets}
 use Rattle.trees.specs.Counter.{seen}

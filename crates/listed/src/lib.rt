@@ -1,6 +1,6 @@
 // Statements over listed states: whether an action in a listed state makes a statement untrue.
-use certificate::bytes::u64_at;
-use certificate::bytes::u64_in;
+use bytes::u64_at;
+use bytes::u64_in;
 use task::Action;
 use task::after;
 use task::all_on;
@@ -12,7 +12,7 @@ ghost use mathlib.Core.Bool.{not, _||_};
 ghost use lib.ListN.{length};
 ghost use lib.Dec.{T, eqb, ltb};
 ghost use Rattle.task.specs.Reach.{member};
-ghost use Rattle.certificate.specs.Views.{numberAt};
+ghost use Rattle.bytes.specs.Numbers.{numberAt};
 ghost use Rattle.meaning.specs.Sets.{allBelow, someBelow, meets};
 ghost use Rattle.propagation.specs.Clauses.{clauseAt};
 ghost use Rattle.listed.specs.Listed.{statesAt, InOrder, leafHolds, InOrderAt, Shows};

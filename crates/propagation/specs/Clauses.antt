@@ -12,7 +12,7 @@ use Rattle.task.specs.declared.Action.{Action}
 use Rattle.task.specs.Facts.{allOn, without}
 use Rattle.task.specs.Inner.{has}
 use Rattle.meaning.specs.declared.Clause.{Clause}
-use Rattle.certificate.specs.Views.{numberAt}
+use Rattle.bytes.specs.Numbers.{numberAt}
 use Rattle.meaning.specs.Sets.{meets}
 
 -- the unit clause that says of fact i what the mask m does; and the one that says that a fact of m is on

@@ -12,7 +12,7 @@ use Rattle.task.specs.declared.Action.{Action}
 use Rattle.task.specs.Facts.{without}
 use Rattle.task.proofs.Bits.{bit}
 use Rattle.meaning.specs.declared.Clause.{Clause}
-use Rattle.certificate.specs.Views.{numberAt}
+use Rattle.bytes.specs.Numbers.{numberAt}
 use Rattle.meaning.specs.Layout.{hornRule, twoCnfRule}
 use Rattle.propagation.specs.declared.Assignment.{Assignment}
 use Rattle.propagation.specs.declared.Effect.{Effect}

@@ -1,7 +1,7 @@
 // Unit propagation over the clauses of leaves, for one action: what an assignment comes to know where each clause is to hold, until nothing
 // changes. Clauses are read from the file whenever they are looked at; none is kept.
-use certificate::bytes::u64_at;
-use certificate::bytes::u64_in;
+use bytes::u64_at;
+use bytes::u64_in;
 use meaning::Clause;
 use task::Action;
 ghost use mathlib.Core.Path.{_≡_};

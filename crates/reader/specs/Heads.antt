@@ -4,7 +4,7 @@ use Prim.Native.Nat.{ℕ, _+_}
 use mathlib.Core.List.{List}
 use Rattle.reader.specs.declared.EntryHead.{EntryHead}
 use Rattle.reader.specs.declared.TaskHead.{TaskHead}
-use Rattle.certificate.specs.Views.{numberAt}
+use Rattle.bytes.specs.Numbers.{numberAt}
 
 -- the entry at place p: the length of its rest, and its kind
 abbrev pub entryHeadAt : List ℕ → ℕ → EntryHead

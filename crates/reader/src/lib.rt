@@ -1,10 +1,10 @@
 // The reading place, which walks the file without copying it: thin functions over those of `bytes`, and the heads that are read by them.
-use certificate::bytes::byte_at;
-use certificate::bytes::u16_at;
-use certificate::bytes::u64_at;
+use bytes::byte_at;
+use bytes::u16_at;
+use bytes::u64_at;
 ghost use mathlib.Core.Path.{_≡_};
 ghost use Prim.Native.Nat.{_+_, _^_, _<_};
-ghost use Rattle.certificate.specs.Views.{numberAt};
+ghost use Rattle.bytes.specs.Numbers.{numberAt};
 ghost use Rattle.reader.specs.Heads.{entryHeadAt, taskHeadAt};
 
 // The file, and a place in it.

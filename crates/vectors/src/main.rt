@@ -1,7 +1,7 @@
 // Reads cases on standard input, one record each, and prints a reply a line: what the other checker replied is compared with it.
 // A record is 0, or 1 for a question (1 byte), entry (8), state (8), the file's length (4) and the file.
-use certificate::bytes::u32_at;
-use certificate::bytes::u64_at;
+use bytes::u32_at;
+use bytes::u64_at;
 use libc::STDIN_FILENO;
 use libc::STDOUT_FILENO;
 use meaning::Answer;

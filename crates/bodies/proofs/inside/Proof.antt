@@ -2,7 +2,7 @@
 -- Assumes nothing.
 use mathlib.Core.Path.{sym}
 use borrow.Author.Needs.{needs}
-use Rattle.certificate.proofs.ByteLaws.{inside-past, inside-room}
+use Rattle.bytes.proofs.ByteLaws.{inside-past, inside-room}
 use Rattle.bodies.proofs.inside.Statement.{statement}
 use Rattle.bodies.proofs.inside.Tie as tie
 

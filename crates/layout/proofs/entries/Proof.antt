@@ -3,7 +3,7 @@
 -- Assumes nothing.
 use Prim.Native.Nat.{_+_, _-_, _≤_}
 use lib.ListN.{length}
-use Rattle.certificate.specs.Views.{numberAt}
+use Rattle.bytes.specs.Numbers.{numberAt}
 use Rattle.bodies.specs.Verdicts.{setsOf}
 use Rattle.layout.proofs.SectionChecks.{EntriesLeft, entries-start, entries-end, entry-fine, entry-bad, entry-good}
 use borrow.Author.Needs.{needs}

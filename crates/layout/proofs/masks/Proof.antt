@@ -5,7 +5,7 @@ use mathlib.Core.Path.{sym, _∙_}
 use Prim.Native.Nat.{_-_, _≤_, _<_}
 use borrow.Author.Tests.{not-false}
 use Rattle.meaning.specs.Layout.{mask}
-use Rattle.certificate.proofs.ByteLaws.{inside-out}
+use Rattle.bytes.proofs.ByteLaws.{inside-out}
 use Rattle.bodies.proofs.Verdicts.{ItemsLeft, items-start, items-done, item-bad, item-good}
 use Rattle.bodies.proofs.FieldLaws.{mask-cut, mask-in, mask-high}
 use borrow.Author.Needs.{needs}

@@ -3,7 +3,7 @@
 use Prim.Native.Nat.{_+_, _*_}
 use mathlib.Core.Path.{sym, _∙_}
 use borrow.Author.Needs.{needs}
-use Rattle.certificate.proofs.ByteLaws.{number-in}
+use Rattle.bytes.proofs.ByteLaws.{number-in}
 use Rattle.propagation.specs.Propagation.{wordsAt}
 use Rattle.propagation.proofs.words_in.Statement.{statement}
 use Rattle.propagation.proofs.words_in.Tie as tie

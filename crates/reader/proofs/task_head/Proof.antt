@@ -33,7 +33,7 @@ use denote.Triple.Spec.{Meets, tripleOf}
 use denote.Triple.Table.{entered, cited}
 use denote.Triple.Walked.{says, Stays, stay-none-slice, walkOf, goes-none-slice, ends-at, walked, walk-meets}
 use denote.Exit.{yes}
-use Rattle.certificate.specs.Views.{numberAt}
+use Rattle.bytes.specs.Numbers.{numberAt}
 use Rattle.reader.specs.declared.TaskHead.{TaskHead}
 use Rattle.reader.proofs.ReaderWalks.{mach, Own, token}
 use Rattle.reader.proofs.ReadNumber.{OnReader}

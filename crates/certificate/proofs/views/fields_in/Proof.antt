@@ -5,9 +5,9 @@ use mathlib.Core.Path.{_≡_, sym, _∙_}
 use mathlib.Core.List.{List, [], _∷_}
 use lib.ListN.{length}
 use Rattle.meaning.specs.Bytes.{number}
-use Rattle.certificate.specs.Views.{numberAt}
+use Rattle.bytes.specs.Numbers.{numberAt}
 use Rattle.certificate.specs.Index.{fieldsAt}
-use Rattle.certificate.proofs.ByteLaws.{number-in}
+use Rattle.bytes.proofs.ByteLaws.{number-in}
 use borrow.Author.Needs.{needs}
 use Rattle.certificate.proofs.views.fields_in.Statement.{statement}
 use Rattle.certificate.proofs.views.fields_in.Tie as tie

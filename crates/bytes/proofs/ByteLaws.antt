@@ -12,7 +12,7 @@ use lib.Dec.{leb}
 use lib.Seq.{drop-cons, drop-drop, take-add, length-take-le}
 use borrow.Author.Tests.{le-leb, lt-leb, leb-true}
 use Rattle.meaning.specs.Bytes.{bigEndian, number, inside}
-use Rattle.certificate.specs.Views.{numberAt}
+use Rattle.bytes.specs.Numbers.{numberAt}
 
 -- ---- in the file, and past its end
 

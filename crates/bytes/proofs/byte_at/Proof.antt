@@ -1,10 +1,10 @@
--- `certificate::bytes::byte_at` meets its contract.
+-- `bytes::byte_at` meets its contract.
 -- Assumes nothing.
 use borrow.Author.Needs.{needs}
 use mathlib.Core.Path.{sym, _∙_}
-use Rattle.certificate.proofs.ByteLaws.{number-in, number-past, number-one}
-use Rattle.certificate.proofs.bytes.byte_at.Statement.{statement}
-use Rattle.certificate.proofs.bytes.byte_at.Tie as tie
+use Rattle.bytes.proofs.ByteLaws.{number-in, number-past, number-one}
+use Rattle.bytes.proofs.byte_at.Statement.{statement}
+use Rattle.bytes.proofs.byte_at.Tie as tie
 
 returns : tie.Need-returns
 returns c =

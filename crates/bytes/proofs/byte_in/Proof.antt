@@ -1,10 +1,10 @@
--- `certificate::bytes::byte_in` meets its contract.
+-- `bytes::byte_in` meets its contract.
 -- Assumes nothing.
 use borrow.Author.Needs.{needs}
 use mathlib.Core.Path.{sym}
-use Rattle.certificate.proofs.ByteLaws.{number-one}
-use Rattle.certificate.proofs.bytes.byte_in.Statement.{statement}
-use Rattle.certificate.proofs.bytes.byte_in.Tie as tie
+use Rattle.bytes.proofs.ByteLaws.{number-one}
+use Rattle.bytes.proofs.byte_in.Statement.{statement}
+use Rattle.bytes.proofs.byte_in.Tie as tie
 
 returns : tie.Need-returns
 returns c =

@@ -1,10 +1,10 @@
--- `certificate::bytes::u32_at` meets its contract.
+-- `bytes::u32_at` meets its contract.
 -- Assumes nothing.
 use borrow.Author.Needs.{needs}
 use mathlib.Core.Path.{sym, _∙_}
-use Rattle.certificate.proofs.ByteLaws.{number-in, number-past}
-use Rattle.certificate.proofs.bytes.u32_at.Statement.{statement}
-use Rattle.certificate.proofs.bytes.u32_at.Tie as tie
+use Rattle.bytes.proofs.ByteLaws.{number-in, number-past}
+use Rattle.bytes.proofs.u32_at.Statement.{statement}
+use Rattle.bytes.proofs.u32_at.Tie as tie
 
 returns : tie.Need-returns
 returns c = sym (number-past 4 (c .before .before .args .file .now) (c .before .before .args .at) (search needs))

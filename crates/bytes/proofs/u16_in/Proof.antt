@@ -1,10 +1,10 @@
--- `certificate::bytes::u16_in` meets its contract.
+-- `bytes::u16_in` meets its contract.
 -- Assumes nothing.
 use mathlib.Core.Path.{sym, _∙_}
-use Rattle.certificate.proofs.ByteLaws.{number-two}
+use Rattle.bytes.proofs.ByteLaws.{number-two}
 use borrow.Author.Needs.{needs}
-use Rattle.certificate.proofs.bytes.u16_in.Statement.{statement}
-use Rattle.certificate.proofs.bytes.u16_in.Tie as tie
+use Rattle.bytes.proofs.u16_in.Statement.{statement}
+use Rattle.bytes.proofs.u16_in.Tie as tie
 
 returns : tie.Need-returns
 returns c =

@@ -3,7 +3,7 @@ ghost use mathlib.Core.Path.{_≡_};
 ghost use Prim.Native.Nat.{_+_, _*_, _≤_};
 ghost use lib.ListN.{length};
 ghost use Rattle.meaning.specs.Bytes.{number};
-ghost use Rattle.certificate.specs.Views.{numberAt};
+ghost use Rattle.bytes.specs.Numbers.{numberAt};
 
 // Two or four bytes as a number. Eight are two of four: LLVM makes one load of that.
 fn two(a: u8, b: u8) -> u16
@@ -19,7 +19,7 @@ fn four(a: u8, b: u8, c: u8, d: u8) -> u32
 }
 
 // The byte at a place of the file.
-pub(crate) fn byte_in(file: &[u8], at: usize) -> u8
+pub fn byte_in(file: &[u8], at: usize) -> u8
     requires { ⌜ at + 1 ≤ length (now file) ⌝ }
     ensures { λ r. ⌜ r ≡ number 1 (now (file .entry)) at ⌝ }
 {
@@ -27,7 +27,7 @@ pub(crate) fn byte_in(file: &[u8], at: usize) -> u8
 }
 
 // The number in the two, four or eight bytes from a place that has them.
-pub(crate) fn u16_in(file: &[u8], at: usize) -> u16
+pub fn u16_in(file: &[u8], at: usize) -> u16
     requires { ⌜ at + 2 ≤ length (now file) ⌝ }
     ensures { λ r. ⌜ r ≡ number 2 (now (file .entry)) at ⌝ }
 {

@@ -1,10 +1,10 @@
--- `certificate::bytes::u64_in` meets its contract.
+-- `bytes::u64_in` meets its contract.
 -- Assumes nothing.
 use borrow.Author.Needs.{needs}
 use native.Mathlib.Omega.{arith}
-use Rattle.certificate.proofs.ByteLaws.{number-cat}
-use Rattle.certificate.proofs.bytes.u64_in.Statement.{statement}
-use Rattle.certificate.proofs.bytes.u64_in.Tie as tie
+use Rattle.bytes.proofs.ByteLaws.{number-cat}
+use Rattle.bytes.proofs.u64_in.Statement.{statement}
+use Rattle.bytes.proofs.u64_in.Tie as tie
 
 returns : tie.Need-returns
 returns c =
