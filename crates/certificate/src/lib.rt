@@ -1,4 +1,4 @@
-// The file as it stands in memory: its numbers, the places of its parts, and its entries and steps as values.
+// The file as it stands in memory: the places of its parts, and its entries and steps as values.
 
 pub mod known;
 pub mod views;
