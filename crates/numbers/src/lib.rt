@@ -1,41 +1,26 @@
 // The rules' numbers, premise counts and judgement kinds.
 ghost use mathlib.Core.Path.{_≡_};
-ghost use Rattle.numbers.specs.Numbers.{premisesOf, judgementOf};
+ghost use Rattle.numbers.specs.Numbers.{premisesOf, judgementOf, bitsOf};
 
 // What a rule of document 01's list carries beside its number: its premise count and its judgement kind.
 pub struct Rule(pub u8, pub u8);
 
-const RULES: [Rule; 29] = [
-    Rule(0, 0), // 0 is no rule
-    Rule(0, 1), // 1 B1
-    Rule(0, 1), // 2 B2
-    Rule(0, 1), // 3 B3
-    Rule(0, 1), // 4 B4
-    Rule(0, 2), // 5 B5
-    Rule(0, 0), // 6 ED
-    Rule(2, 0), // 7 UD
-    Rule(2, 0), // 8 SD
-    Rule(3, 0), // 9 PG
-    Rule(3, 0), // 10 PI
-    Rule(3, 0), // 11 RG
-    Rule(3, 0), // 12 RI
-    Rule(1, 3), // 13 CI
-    Rule(1, 3), // 14 CG
-    Rule(0, 1), // 15 UR
-    Rule(0, 1), // 16 UL
-    Rule(0, 1), // 17 IR
-    Rule(0, 1), // 18 IL
-    Rule(0, 1), // 19 DI
-    Rule(2, 1), // 20 SU
-    Rule(2, 1), // 21 SI
-    Rule(2, 1), // 22 ST
-    Rule(2, 1), // 23 AT
-    Rule(2, 1), // 24 AU
-    Rule(2, 1), // 25 PT
-    Rule(2, 1), // 26 PU
-    Rule(1, 1), // 27 PR
-    Rule(1, 1), // 28 RP
-];
+// The premise counts of 0, which is no rule, and of the rules 1 to 28, two bits each, the lowest first; and their judgement kinds.
+// One word is read faster than a table.
+const PREMISES: u64 = 0x016aaa0017fe8000;
+
+const JUDGEMENTS: u64 = 0x015555557c000954;
+
+// The two bits of a number up to 28; 0 for one above.
+fn two_bits(word: u64, number: u8) -> u8
+    ensures { λ r. ⌜ r ≡ bitsOf word number ⌝ }
+{
+    if number < 29 {
+        ((word >> (2 * number)) % 4) as u8
+    } else {
+        0
+    }
+}
 
 impl Rule {
     pub const B1: u8 = 1;
@@ -98,25 +83,13 @@ impl Rule {
     pub fn premises(number: u8) -> u8
         ensures { λ r. ⌜ r ≡ premisesOf number ⌝ }
     {
-        let i = number as usize;
-        if i < 29 {
-            let rule = RULES[i];
-            rule.0
-        } else {
-            0
-        }
+        two_bits(PREMISES, number)
     }
 
     // The judgement kind that a rule gives; 0 for a number that names none.
     pub fn judgement(number: u8) -> u8
         ensures { λ r. ⌜ r ≡ judgementOf number ⌝ }
     {
-        let i = number as usize;
-        if i < 29 {
-            let rule = RULES[i];
-            rule.1
-        } else {
-            0
-        }
+        two_bits(JUDGEMENTS, number)
     }
 }

@@ -1,9 +1,8 @@
 -- How a rule's match computes: a chain of tests, one after the other. A judgement of another kind matches nothing, also where only a range of the rule's number is known.
 -- Assumes nothing.
 use mathlib.Core.Path.{_≡_, refl, sym}
-use Prim.Native.Nat.{ℕ, zero, suc, _+_, _-_, _≤_, _<_}
+use Prim.Native.Nat.{ℕ, zero, suc, _+_, _-_, _≤_}
 use native.Mathlib.Omega.{arith}
-use native.Mathlib.Nat.{not-suc-le-zero, le-of-suc-le-suc}
 use mathlib.Core.Logic.{inl, inr}
 use mathlib.Core.Bool.{Bool, true, false, _&&_, _||_}
 use mathlib.Core.Option.{Option, none, some}
@@ -12,7 +11,7 @@ use lib.Dec.{T, eqb, eqb→eq}
 use lib.ListN.{getD}
 use denote.Enum.Declared.{tagOf}
 use types.Run.{OneOf}
-use Rattle.task.proofs.Tests.{both-ways, same, and-left, and-right, or-cases}
+use Rattle.task.proofs.Tests.{both-ways, same, or-cases, each, each-at}
 use Rattle.certificate.specs.declared.Judgement.{Judgement}
 use Rattle.certificate.specs.declared.Judgement.the-variants.{Dead, Within, ActionsWithin, Unsolvable}
 use Rattle.meaning.specs.File.{File, actionKind, basicKind, stateKind, first, second, firstAction, secondAction}
@@ -117,16 +116,6 @@ pub other-said : (f : File) (n i k : ℕ) (j : Judgement) (js : List Judgement) 
 other-said f n i k j js t h = unmatched f k (ruleNumbered n) i j js t (unlike k 0 4 _ (rw (tag-said (getD (j ∷ js) i Unsolvable)) at h))
 
 -- ---- a range of rules
-
--- a test holds of each number below n
-abbrev pub each : (ℕ → Bool) → ℕ → Bool
-each t zero = true
-each t (suc n) = t 0 && each (λ k. t (suc k)) n
-
-each-at : (t : ℕ → Bool) (n k : ℕ) → T (each t n) → k < n → T (t k)
-each-at t zero k h l = absurd (not-suc-le-zero l)
-each-at t (suc n) zero h l = and-left (t 0) (each (λ k. t (suc k)) n) h
-each-at t (suc n) (suc k) h l = each-at (λ k. t (suc k)) n k (and-right (t 0) (each (λ k. t (suc k)) n) h) (le-of-suc-le-suc l)
 
 -- what holds of each number from `from` to `last` holds of one among them
 ranged : (t : ℕ → Bool) (from last k : ℕ) → T (each (λ m. t (from + m)) (suc last - from)) → (from ≤ k) × (k ≤ last) → T (t k)

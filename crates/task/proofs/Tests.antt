@@ -2,7 +2,8 @@
 -- Assumes nothing.
 use mathlib.Core.Path.{_≡_, refl, subst, sym}
 use mathlib.Core.Logic.{_⊎_, inl, inr}
-use Prim.Native.Nat.{ℕ}
+use Prim.Native.Nat.{ℕ, zero, suc, _<_}
+use native.Mathlib.Nat.{not-suc-le-zero, le-of-suc-le-suc}
 use mathlib.Core.Bool.{Bool, true, false, not, _&&_, _||_}
 use mathlib.Core.List.{List, [], _∷_}
 use lib.Dec.{T, eqb, eqb→eq, eqb-refl}
@@ -113,3 +114,14 @@ distinct-none = tt
 pub distinct-more : (x : ℕ) (xs : List ℕ) → T (not (member x xs)) → T (distinct xs) → T (distinct (x ∷ xs))
 unfolding distinct
 distinct-more x xs n d = and-both (not (member x xs)) (distinct xs) n d
+
+-- ---- a test of each number below n
+
+abbrev pub each : (ℕ → Bool) → ℕ → Bool
+each t zero = true
+each t (suc n) = t 0 && each (λ k. t (suc k)) n
+
+pub each-at : (t : ℕ → Bool) (n k : ℕ) → T (each t n) → k < n → T (t k)
+each-at t zero k h l = absurd (not-suc-le-zero l)
+each-at t (suc n) zero h l = and-left (t 0) (each (λ k. t (suc k)) n) h
+each-at t (suc n) (suc k) h l = each-at (λ k. t (suc k)) n k (and-right (t 0) (each (λ k. t (suc k)) n) h) (le-of-suc-le-suc l)
