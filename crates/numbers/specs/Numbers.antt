@@ -1,10 +1,8 @@
 -- Each rule's premise count and judgement kind, by its number.
 -- Assumes nothing.
-use Prim.Native.Nat.{ℕ, _*_, _/_, _%_, _^_}
-use mathlib.Core.Bool.{true, false}
+use Prim.Native.Nat.{ℕ}
 use mathlib.Core.List.{List, [], _∷_}
 use lib.ListN.{getD}
-use lib.Dec.{ltb}
 use Rattle.numbers.specs.declared.Rule.{Rule}
 
 -- of 0, which is no rule, and of the rules 1 to 28
@@ -20,7 +18,3 @@ premisesOf n = getD ruleTable n (0, 0) .0
 
 unfoldable pub judgementOf : ℕ → ℕ
 judgementOf n = getD ruleTable n (0, 0) .1
-
--- the two bits of a number up to 28 in a word that holds them from the lowest on; 0 for a number above
-unfoldable pub bitsOf : ℕ → ℕ → ℕ
-bitsOf word n = elim (ltb n 29) [ true ↦ word / 2 ^ (2 * n) % 4 | false ↦ 0 ]

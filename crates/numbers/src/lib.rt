@@ -1,6 +1,7 @@
 // The rules' numbers, premise counts and judgement kinds.
 ghost use mathlib.Core.Path.{_≡_};
-ghost use Rattle.numbers.specs.Numbers.{premisesOf, judgementOf, bitsOf};
+ghost use Prim.Native.Nat.{_*_, _/_, _%_, _^_, _<_, _≤_};
+ghost use Rattle.numbers.specs.Numbers.{premisesOf, judgementOf};
 
 // What a rule of document 01's list carries beside its number: its premise count and its judgement kind.
 pub struct Rule(pub u8, pub u8);
@@ -13,7 +14,7 @@ const JUDGEMENTS: u64 = 0x015555557c000954;
 
 // The two bits of a number up to 28; 0 for one above.
 fn two_bits(word: u64, number: u8) -> u8
-    ensures { λ r. ⌜ r ≡ bitsOf word number ⌝ }
+    ensures { λ r. ⌜ (number < 29 → r ≡ word / 2 ^ (2 * number) % 4) × (29 ≤ number → r ≡ 0) ⌝ }
 {
     if number < 29 {
         ((word >> (2 * number)) % 4) as u8

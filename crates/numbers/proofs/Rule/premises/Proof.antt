@@ -1,6 +1,6 @@
 -- `Rule::premises` meets its contract: the word says what the table does.
 -- Assumes nothing.
-use mathlib.Core.Path.{refl, _∙_}
+use mathlib.Core.Path.{refl}
 use borrow.Author.Needs.{needs}
 use Rattle.numbers.specs.declared.Rule.{Rule}
 use Rattle.numbers.specs.Numbers.{ruleTable, premisesOf}
@@ -10,7 +10,7 @@ use Rattle.numbers.proofs.Rule.premises.Tie as tie
 
 returns : tie.Need-returns
 unfolding premisesOf ruleTable
-returns c = c .two-bits .ensures ∙ packed _ (λ (r : Rule). r .0) refl tt _
+returns c = packed _ (λ (r : Rule). r .0) refl tt _ _ (c .two-bits .ensures)
 
 pub premises-spec : {M : Type 1} → statement M
 premises-spec = tie.close (tie.spec (λ c κs. search needs) returns)
