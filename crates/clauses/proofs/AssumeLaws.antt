@@ -121,15 +121,15 @@ against c r told s g = not-of (meets s c) (λ t. never-met (met-by s c t))
 
 -- ---- then the others
 
-module _ (P : Clause → Type 0) (c : Clause) (x y : Assignment) (o : Opposed c x y) where
+module _ (two : Bool) (P : Clause → Type 0) (c : Clause) (x y : Assignment) (o : Opposed c x y) where
   -- nothing new, or a conflict: no look is needed
-  pub assumed-conflict : y .conflict ≡ true → Assumed P c x y
+  pub assumed-conflict : y .conflict ≡ true → Assumed two P c x y
   assumed-conflict t = record { goes = going-under (λ s p. p .1) (o .goes); told = o .told; settled = λ z. absurd (true≢false (sym t ∙ z)) }
 
-  pub assumed-same : Alike x y → Assumed P c x y
-  assumed-same e = record { goes = going-under (λ s p. p .1) (o .goes); told = o .told; settled = λ z h. alike {x = x} {r = y} {P = P} e h }
+  pub assumed-same : Alike two x y → Assumed two P c x y
+  assumed-same e = record { goes = going-under (λ s p. p .1) (o .goes); told = o .told; settled = λ z h. alike two x y {P = P} e (o .goes .grows) h }
 
-  pub assumed-solved : (r : Assignment) → Solved P y r → Assumed P c x r
+  pub assumed-solved : (r : Assignment) → Solved two P y r → Assumed two P c x r
   assumed-solved r v =
       record {
         goes = going-more (λ s p. (p .1, p .0)) (o .goes) (v .goes);

@@ -16,15 +16,11 @@ use Rattle.meaning.specs.declared.Clause.{Clause}
 use Rattle.meaning.specs.Layout.{onesIn, hornRule, twoCnfRule}
 use Rattle.task.specs.Inner.{has}
 use Rattle.propagation.specs.Clauses.{metBy, pulled, clauseAt, sameAs, onIn}
-use Rattle.propagation.specs.Propagation.{wordsAt, ruleOf}
+use Rattle.propagation.specs.Propagation.{wordsAt, Horn, ruleOf}
 use Rattle.propagation.proofs.OneFact.{off-in, bit-only, bit-other, ones-less}
 use Rattle.propagation.proofs.ClauseLaws.{Has, anything, rest, rest-has, pulled-met, pulled-rest}
 
 -- ---- the shapes, in terms of literals
-
--- Horn: positive literals are one
-abbrev Horn : Clause → Type 0
-Horn c = (f g : ℕ) → f < 64 → g < 64 → Has c true f → Has c true g → f ≡ g
 
 -- two-literal: of three literals, two are the same
 abbrev TwoCnf : Clause → Type 0

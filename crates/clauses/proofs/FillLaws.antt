@@ -14,19 +14,23 @@ use Rattle.task.proofs.Bits.{bit, bit-le, bit-high, bit-after, add-wins, del-la
 use Rattle.meaning.specs.declared.Clause.{Clause}
 use Rattle.propagation.specs.declared.Assignment.{Assignment}
 use Rattle.meaning.specs.Sets.{meets}
-use Rattle.propagation.specs.Propagation.{mask, holding, failing, value, Agrees, Apart, Meets, Wide, Settled, Fillable}
-use Rattle.propagation.proofs.ClauseLaws.{Has, by-met, met-by}
+use Rattle.propagation.specs.Propagation.{mask, holding, failing, value, Agrees, Apart, Meets, Held, Wide, Settled, Fillable}
+use Rattle.propagation.proofs.ClauseLaws.{by-met, met-by}
 use Rattle.clauses.proofs.ClauseShapes.{Shaped}
 
 -- a clause below 2 ^ 64 has no fact 64 or above
 low : (f m : ℕ) → m < 2 ^ 64 → bit f m ≡ 1 → f < 64
 low f m l e = elim (decLt f 64) [ yes k ↦ k | no k ↦ absurd (omega (arith, bit-high 64 f m l (omega arith))) ]
 
--- a settled clause is met by a state that agrees, where it is by one that is wide
-meets-settled : (P : Clause → Type 0) (r : Assignment) (s : ℕ) → Agrees s r → Settled P r → ((c : Clause) → P c → Wide r c → T (meets s c)) → Meets P s
-meets-settled P r s g h k c p = ⊎-elim (λ t. by-met s c (t .side) (t .fact) (t .has) (g .says (t .side) (t .fact) (t .holds))) (k c p) (h c p)
+-- a state that agrees meets a clause of which a literal holds
+held-met : (r : Assignment) (s : ℕ) (c : Clause) → Agrees s r → Held r c → T (meets s c)
+held-met r s c g t = by-met s c (t .side) (t .fact) (t .has) (g .says (t .side) (t .fact) (t .holds))
 
-module _ (P : Clause → Type 0) (r : Assignment) (fits : r .on < 2 ^ 64) (calm : r .conflict ≡ false) (apart : Apart r) (settled : Settled P r) where
+-- a clause settled in general is met by a state that agrees, where it is by one that is wide
+meets-settled : (P : Clause → Type 0) (r : Assignment) (s : ℕ) → Agrees s r → Settled true P r → ((c : Clause) → P c → Wide r c → T (meets s c)) → Meets P s
+meets-settled P r s g h k c p = ⊎-elim (held-met r s c g) (k c p) (h c p)
+
+module _ (r : Assignment) (fits : r .on < 2 ^ 64) (calm : r .conflict ≡ false) (apart : Apart r) where
   -- the facts that are on agree
   pub on-agrees : Agrees (r .on) r
   on-agrees = record { calm = calm; fits = fits; says = says }
@@ -35,18 +39,14 @@ module _ (P : Clause → Type 0) (r : Assignment) (fits : r .on < 2 ^ 64) (calm 
       says true f e = e
       says false f e = omega (arith, apart f)
 
-  -- Horn: of two open literals one is negative, and its fact is not on
-  pub horn-fills : ((c : Clause) → P c → Shaped false c) → Meets P (r .on)
-  horn-fills horn = meets-settled P r (r .on) on-agrees settled (λ c p w. by c p (w .fits true) (w .side₁) (w .side₂) (w .fact₁) (w .fact₂) (w .differ) (w .has₁) (w .has₂) (w .open₁) (w .open₂))
-    where
-      by : (c : Clause) → P c → c .positive < 2 ^ 64 → (a b : Bool) (f g : ℕ) → (a ≡ b → f ≡ g → ⊥) → Has c a f → Has c b g → bit f (failing a r) ≡ 0 → bit g (failing b r) ≡ 0 → T (meets (r .on) c)
-      by c p l true true f g d u v y z = absurd (d refl (horn c p f g (low f (c .positive) l u) (low g (c .positive) l v) u v))
-      by c p l true false f g d u v y z = by-met (r .on) c false g v z
-      by c p l false b f g d u v y z = by-met (r .on) c false f u y
+  -- Horn: where the body is not all on, a fact of it is off in that state
+  horn-fills : (P : Clause → Type 0) → Settled false P r → ((c : Clause) → P c → Shaped false c) → Meets P (r .on)
+  horn-fills P settled horn c p = ⊎-elim (held-met r (r .on) c on-agrees) (λ w. by-met (r .on) c false (w .fact) (w .has) (w .not-on)) (settled c p (horn c p))
 
+module _ (P : Clause → Type 0) (r : Assignment) (fits : r .on < 2 ^ 64) (calm : r .conflict ≡ false) (apart : Apart r) (settled : Settled true P r) where
   -- no fact is open
   pub full-fills : ((f : ℕ) → f < 64 → 1 ≤ bit f (r .on) + bit f (r .off)) → Meets P (r .on)
-  full-fills full = meets-settled P r (r .on) on-agrees settled (λ c p w. by-met (r .on) c (w .side₁) (w .fact₁) (w .has₁) (is (w .side₁) (w .fact₁) (low _ _ (w .fits (w .side₁)) (w .has₁)) (w .open₁)))
+  full-fills full = meets-settled P r (r .on) (on-agrees r fits calm apart) settled (λ c p w. by-met (r .on) c (w .side₁) (w .fact₁) (w .has₁) (is (w .side₁) (w .fact₁) (low _ _ (w .fits (w .side₁)) (w .has₁)) (w .open₁)))
     where
       is : (b : Bool) (f : ℕ) → f < 64 → bit f (failing b r) ≡ 0 → bit f (r .on) ≡ value b
       is true f l e = omega (arith, full f l, bit-le f (r .on))
@@ -88,9 +88,9 @@ module _ (P : Clause → Type 0) (r : Assignment) (fits : r .on < 2 ^ 64) (calm 
 
 -- ---- so the clauses can be filled
 
-pub horn-fillable : (P : Clause → Type 0) → ((c : Clause) → P c → Shaped false c) → Fillable P
-horn-fillable P h r fits calm apart settled = (r .on, on-agrees P r fits calm apart settled, horn-fills P r fits calm apart settled h)
+pub horn-fillable : (P : Clause → Type 0) → ((c : Clause) → P c → Shaped false c) → Fillable false P
+horn-fillable P h r fits calm apart settled = (r .on, on-agrees r fits calm apart, horn-fills r fits calm apart P settled h)
 
-pub two-fillable : (P : Clause → Type 0) → ((c : Clause) → P c → Shaped true c) → (s : ℕ) → s < 2 ^ 64 → Meets P s → Fillable P
+pub two-fillable : (P : Clause → Type 0) → ((c : Clause) → P c → Shaped true c) → (s : ℕ) → s < 2 ^ 64 → Meets P s → Fillable true P
 two-fillable P h s hs m r fits calm apart settled =
     (overlay P r fits calm apart settled s hs m, overlay-agrees P r fits calm apart settled s hs m, two-fills P r fits calm apart settled s hs m h)

@@ -50,8 +50,8 @@ offClause i = record { positive = 2 ^ i; negative = 0 }
 abbrev pub onClause : ℕ → Clause
 onClause i = record { positive = 0; negative = 2 ^ i }
 
-module _ (P : Clause → Type 0) (x : Assignment) (i : ℕ) where
-  pub decided-already : bitOr (x .on) (x .off) / 2 ^ i % 2 ≡ 1 → Decided P i x x
+module _ (two : Bool) (P : Clause → Type 0) (x : Assignment) (i : ℕ) where
+  pub decided-already : bitOr (x .on) (x .off) / 2 ^ i % 2 ≡ 1 → Decided two P i x x
   unfolding bit
   decided-already e =
       record {
@@ -61,7 +61,7 @@ module _ (P : Clause → Type 0) (x : Assignment) (i : ℕ) where
         none = λ t s g m. true≢false (sym t ∙ g .calm);
       }
 
-  pub decided-off : (y : Assignment) → Assumed P (offClause i) x y → y .conflict ≡ false → Decided P i x y
+  pub decided-off : (y : Assignment) → Assumed two P (offClause i) x y → y .conflict ≡ false → Decided two P i x y
   decided-off y u z =
       record {
         goes = going-under (λ s p. absurd p) (u .goes);
@@ -70,7 +70,7 @@ module _ (P : Clause → Type 0) (x : Assignment) (i : ℕ) where
         none = λ t. absurd (true≢false (sym t ∙ z));
       }
 
-  pub decided-on : (y r : Assignment) → Assumed P (offClause i) x y → y .conflict ≡ true → Assumed P (onClause i) x r → Decided P i x r
+  pub decided-on : (y r : Assignment) → Assumed two P (offClause i) x y → y .conflict ≡ true → Assumed two P (onClause i) x r → Decided two P i x r
   decided-on y r u t v =
       record {
         goes = going-under (λ s p. absurd p) (v .goes);
@@ -93,18 +93,18 @@ module _ (P : Clause → Type 0) (x : Assignment) (i : ℕ) where
 -- ---- one fact after the other
 
 -- the first i facts are known
-pub record Trying (P : Clause → Type 0) (i : ℕ) (x r : Assignment) : Type 0 where
+pub record Trying (two : Bool) (P : Clause → Type 0) (i : ℕ) (x r : Assignment) : Type 0 where
   pub goes : Going (λ s. ⊥) x r
   pub calm : r .conflict ≡ false
   pub apart : Apart r
-  pub settled : Settled P r
+  pub settled : Settled two P r
   pub known : (f : ℕ) → f < i → 1 ≤ bit f (r .on) + bit f (r .off)
 
-module _ (P : Clause → Type 0) where
-  pub trying-none : (x : Assignment) → x .conflict ≡ false → Ready P x → Trying P 0 x x
+module _ (two : Bool) (P : Clause → Type 0) where
+  pub trying-none : (x : Assignment) → x .conflict ≡ false → Ready two P x → Trying two P 0 x x
   trying-none x z r = record { goes = going-none _ x; calm = z; apart = r .apart z; settled = r .settled z; known = λ f l. absurd (omega arith) }
 
-  pub trying-more : {i : ℕ} {x y r : Assignment} → Trying P i x y → Decided P i y r → r .conflict ≡ false → Trying P (i + 1) x r
+  pub trying-more : {i : ℕ} {x y r : Assignment} → Trying two P i x y → Decided two P i y r → r .conflict ≡ false → Trying two P (i + 1) x r
   trying-more {i} {x} {y} {r} u v z =
       record {
         goes = going-more (λ s p. absurd p) (u .goes) (v .goes);
@@ -117,28 +117,32 @@ module _ (P : Clause → Type 0) where
         ];
       }
 
+  general : two ≡ true → (r : Assignment) → Settled two P r → Settled true P r
+  general e r = subst (λ (b : Bool). Settled b P r) e
+
   -- every fact is known: the facts that are on are a model
-  pub trying-done : {i : ℕ} {x r : Assignment} → 64 ≤ i → Trying P i x r → r .on < 2 ^ 64 → Model P x
-  trying-done {i} {x} {r} l u fits =
-      (r .on, agrees-before (λ s. ⊥) x r (r .on) (u .goes) (on-agrees P r fits (u .calm) (u .apart) (u .settled)), full-fills P r fits (u .calm) (u .apart) (u .settled) (λ f k. u .known f (omega arith)))
+  pub trying-done : two ≡ true → {i : ℕ} {x r : Assignment} → 64 ≤ i → Trying two P i x r → r .on < 2 ^ 64 → Model P x
+  trying-done e {i} {x} {r} l u fits =
+      (r .on, agrees-before (λ s. ⊥) x r (r .on) (u .goes) (on-agrees r fits (u .calm) (u .apart)), full-fills P r fits (u .calm) (u .apart) (general e r (u .settled)) (λ f k. u .known f (omega arith)))
 
   -- neither value of a fact can be: there is no model, since what is known could be put into it
-  pub trying-none-left : ((c : Clause) → P c → Shaped true c) → {i : ℕ} {x y r : Assignment} → Trying P i x y → y .on < 2 ^ 64 → Decided P i y r → r .conflict ≡ true → Model P x → ⊥
-  trying-none-left two {i} {x} {y} {r} u fits v t (s, g, m) =
-      v .none t (overlay P y fits (u .calm) (u .apart) (u .settled) s (g .fits) m) (overlay-agrees P y fits (u .calm) (u .apart) (u .settled) s (g .fits) m)
-      (two-fills P y fits (u .calm) (u .apart) (u .settled) s (g .fits) m two)
+  pub trying-none-left : two ≡ true → ((c : Clause) → P c → Shaped two c) → {i : ℕ} {x y r : Assignment} → Trying two P i x y → y .on < 2 ^ 64 → Decided two P i y r → r .conflict ≡ true → Model P x → ⊥
+  trying-none-left e shape {i} {x} {y} {r} u fits v t (s, g, m) =
+      let h = general e y (u .settled) in
+      v .none t (overlay P y fits (u .calm) (u .apart) h s (g .fits) m) (overlay-agrees P y fits (u .calm) (u .apart) h s (g .fits) m)
+      (two-fills P y fits (u .calm) (u .apart) h s (g .fits) m (λ c p. subst (λ (b : Bool). Shaped b c) e (shape c p)))
 
 -- ---- the right leaves in turn
 
-pub ready-next : {P : Clause → Type 0} {c : Clause} {x y : Assignment} → Ready P x → Assumed P c x y → Ready P y
+pub ready-next : {two : Bool} {P : Clause → Type 0} {c : Clause} {x y : Assignment} → Ready two P x → Assumed two P c x y → Ready two P y
 ready-next r u = record { apart = λ z. u .goes .apart z (r .apart (u .goes .calm z)); settled = λ z. u .settled z (r .settled (u .goes .calm z)) }
 
-module _ (P : Clause → Type 0) (Q : ℕ → Clause → Type 0) where
-  pub witness-calm : {j : ℕ} {x : Assignment} → x .conflict ≡ true → Witness P Q j x → ⊥
-  witness-calm t w = true≢false (sym t ∙ w .agrees .calm)
+pub witness-calm : {P : Clause → Type 0} {Q : ℕ → Clause → Type 0} {j : ℕ} {x : Assignment} → x .conflict ≡ true → Witness P Q j x → ⊥
+witness-calm t w = true≢false (sym t ∙ w .agrees .calm)
 
+module _ (two : Bool) (P : Clause → Type 0) (Q : ℕ → Clause → Type 0) where
   -- where no right leaf is left, x itself will do
-  pub candidate-base : {j : ℕ} {x : Assignment} → j ≡ 2 → Ready P x → x .on < 2 ^ 64 → x .conflict ≡ false → Candidate P Q j x
+  pub candidate-base : {j : ℕ} {x : Assignment} → j ≡ 2 → Ready two P x → x .on < 2 ^ 64 → x .conflict ≡ false → Candidate two P Q j x
   candidate-base {j} {x} e r fits z =
       record {
         grown = x;
@@ -150,7 +154,7 @@ module _ (P : Clause → Type 0) (Q : ℕ → Clause → Type 0) where
         fails = λ k l h. absurd (omega arith);
       }
 
-  pub candidate-found : {j : ℕ} {c : Clause} {x y : Assignment} → Q j c → Assumed P c x y → Candidate P Q (j + 1) y → Candidate P Q j x
+  pub candidate-found : {j : ℕ} {c : Clause} {x y : Assignment} → Q j c → Assumed two P c x y → Candidate two P Q (j + 1) y → Candidate two P Q j x
   candidate-found {j} {c} {x} {y} q u w =
       record {
         grown = w .grown;
@@ -168,7 +172,7 @@ module _ (P : Clause → Type 0) (Q : ℕ → Clause → Type 0) where
       }
 
   -- a candidate that can be filled up gives a witness
-  pub candidate-fills : {j : ℕ} {x : Assignment} → Fillable P → Candidate P Q j x → Witness P Q j x
+  pub candidate-fills : {j : ℕ} {x : Assignment} → Fillable two P → Candidate two P Q j x → Witness P Q j x
   candidate-fills {j} {x} fill w =
       let q = fill (w .grown) (w .fits) (w .calm) (w .apart) (w .settled) in
       record {
@@ -178,20 +182,21 @@ module _ (P : Clause → Type 0) (Q : ℕ → Clause → Type 0) where
         fails = λ k l h. let r = w .fails k l h in (r .0, r .1, against (r .0) (w .grown) (r .2) (q .0) (q .1));
       }
 
-  pub sought-yes : {j : ℕ} {x : Assignment} → Candidate P Q j x → Sought true P Q j x
+  pub sought-yes : {j : ℕ} {x : Assignment} → Candidate two P Q j x → Sought two true P Q j x
   sought-yes w = record { finds = λ t. w; sees = λ y. tt }
 
-  pub sought-no : {j : ℕ} {x : Assignment} → (Witness P Q j x → ⊥) → Sought false P Q j x
+  pub sought-no : {j : ℕ} {x : Assignment} → (Witness P Q j x → ⊥) → Sought two false P Q j x
   sought-no n = record { finds = λ t. absurd t; sees = λ y. n y }
 
-  pub sought-not : {j : ℕ} {x : Assignment} {r : Bool} → Sought r P Q j x → r ≡ false → Witness P Q j x → ⊥
+  pub sought-not : {j : ℕ} {x : Assignment} {r : Bool} → Sought two r P Q j x → r ≡ false → Witness P Q j x → ⊥
   sought-not {j} {x} {r} k e w = true≢false (sym (is-true r (k .sees w)) ∙ e)
 
+module _ (P : Clause → Type 0) (Q : ℕ → Clause → Type 0) where
   -- no witness fails one of the first i clauses
   abbrev pub Missing : (ℕ → Clause) → ℕ → ℕ → Assignment → Type 0
   Missing at i j x = (w : Witness P Q (j + 1) x) (k : ℕ) → k < i → T (not (meets (w .state) (at k))) → ⊥
 
-  pub missing-more : (at : ℕ → Clause) (i j : ℕ) {x y : Assignment} → Missing at i j x → Assumed P (at i) x y → (Witness P Q (j + 1) y → ⊥) → Missing at (i + 1) j x
+  pub missing-more : {two : Bool} (at : ℕ → Clause) (i j : ℕ) {x y : Assignment} → Missing at i j x → Assumed two P (at i) x y → (Witness P Q (j + 1) y → ⊥) → Missing at (i + 1) j x
   missing-more at i j {x} {y} h u n w k l t =
       elim (decLt k i) [
         | yes p ↦ h w k p t
@@ -205,14 +210,12 @@ module _ (P : Clause → Type 0) (Q : ℕ → Clause → Type 0) where
             })
       ]
 
-  -- a clause that every witness meets
-  pub missing-met : (at : ℕ → Clause) (i j : ℕ) {x : Assignment} → Missing at i j x → P (at i) → Missing at (i + 1) j x
-  missing-met at i j {x} h p w k l t =
+  -- clauses that every witness meets
+  pub missing-past : (at : ℕ → Clause) (i r j : ℕ) {x : Assignment} → Missing at i j x → ((k : ℕ) → i ≤ k → k < r → P (at k)) → Missing at r j x
+  missing-past at i r j {x} h p w k l t =
       elim (decLt k i) [
         | yes q ↦ h w k q t
-        | no q ↦
-            let e : i ≡ k = omega arith in
-            never (meets (w .state) (at k)) (w .meets-left (at k) (subst (λ (k : ℕ). P (at k)) e p)) t
+        | no q ↦ never (meets (w .state) (at k)) (w .meets-left (at k) (p k (omega arith) l)) t
       ]
 
   pub missing-all : (at : ℕ → Clause) (i j : ℕ) {x : Assignment} → j < 2 → ((c : Clause) → Q j c → (k : ℕ) × (k < i) × (c ≡ at k)) → Missing at i j x → Witness P Q j x → ⊥

@@ -85,8 +85,8 @@ nothing-agrees s l = record { calm = refl; fits = l; says = says }
     says true f e = absurd (omega (arith, bit-none f))
     says false f e = absurd (omega (arith, bit-none f))
 
-module _ (P : Clause → Type 0) (n : ℕ) (hn : n ≤ 64) (a : Action) (x y : Assignment) (o : Opposed (startClause n a) nothing x) (u : Solved P x y) where
-  pub start-ready : Ready P y
+module _ (two : Bool) (P : Clause → Type 0) (n : ℕ) (hn : n ≤ 64) (a : Action) (x y : Assignment) (o : Opposed (startClause n a) nothing x) (u : Solved two P x y) where
+  pub start-ready : Ready two P y
   start-ready =
       record {
         apart = λ z. u .goes .apart z (o .goes .apart (u .goes .calm z) (λ f. omega (arith, bit-none f)));
@@ -128,25 +128,27 @@ module _ (P : Clause → Type 0) (n : ℕ) (hn : n ≤ 64) (a : Action) (x y : A
         each (suc (suc k)) l = absurd (omega arith)
 
     -- a candidate was found, and it is known whether it can be filled up
-    pub tells-worth : {t r : Bool} → Sought t P Q 0 y → T t → Worth P y r → Tells r (Refutes n a P (Q 0) (Q 1))
+    pub tells-worth : {t r : Bool} → Sought two t P Q 0 y → T t → Worth two P y r → Tells r (Refutes n a P (Q 0) (Q 1))
     tells-worth k e w =
         record {
-          finds = λ t. to-refutes (candidate-fills P Q (w .fills t) (k .finds e));
+          finds = λ t. to-refutes (candidate-fills two P Q (w .fills t) (k .finds e));
           sees = λ r. let v = of-refutes r in w .sees (v .state, v .agrees, v .meets-left);
         }
 
     -- none was found
-    pub tells-none : {t : Bool} → Sought t P Q 0 y → t ≡ false → Tells false (Refutes n a P (Q 0) (Q 1))
-    tells-none k e = tells-no (λ r. sought-not P Q k e (of-refutes r))
+    pub tells-none : {t : Bool} → Sought two t P Q 0 y → t ≡ false → Tells false (Refutes n a P (Q 0) (Q 1))
+    tells-none k e = tells-no (λ r. sought-not two P Q k e (of-refutes r))
 
 -- ---- whether it is worth while
 
-pub worth-conflict : {P : Clause → Type 0} {x : Assignment} → x .conflict ≡ true → Worth P x false
+pub worth-conflict : {two : Bool} {P : Clause → Type 0} {x : Assignment} → x .conflict ≡ true → Worth two P x false
 worth-conflict t = record { fills = λ e. absurd e; sees = λ q. true≢false (sym t ∙ q .1 .calm) }
 
 module _ (bytes : List ℕ) (init goal : ℕ) (a : Action) (leaves : List ℕ) (m : ℕ) where
-  pub worth-two : {x : Assignment} {r : Bool} → Usable bytes leaves m true → Tells r (Model (OfLeaves bytes init goal a leaves m) x) → Worth (OfLeaves bytes init goal a leaves m) x r
-  worth-two u k = record { fills = λ e. let q = k .finds e in two-fillable _ (usable-shaped bytes init goal a leaves m true u) (q .0) (q .1 .fits) (q .2); sees = k .sees }
+  pub worth-two : (two : Bool) {x : Assignment} {r : Bool} → two ≡ true → Usable bytes leaves m two → Tells r (Model (OfLeaves bytes init goal a leaves m) x) → Worth two (OfLeaves bytes init goal a leaves m) x r
+  worth-two true e u k = record { fills = λ e. let q = k .finds e in two-fillable _ (usable-shaped bytes init goal a leaves m true u) (q .0) (q .1 .fits) (q .2); sees = k .sees }
+  worth-two false e u k = absurd (true≢false (sym e))
 
-  pub worth-horn : {x : Assignment} → Usable bytes leaves m false → Worth (OfLeaves bytes init goal a leaves m) x true
-  worth-horn u = record { fills = λ e. horn-fillable _ (usable-shaped bytes init goal a leaves m false u); sees = λ q. tt }
+  pub worth-horn : (two : Bool) {x : Assignment} → two ≡ false → Usable bytes leaves m two → Worth two (OfLeaves bytes init goal a leaves m) x true
+  worth-horn true e u = absurd (true≢false e)
+  worth-horn false e u = record { fills = λ e. horn-fillable _ (usable-shaped bytes init goal a leaves m false u); sees = λ q. tt }

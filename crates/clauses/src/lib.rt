@@ -8,6 +8,7 @@ use propagation::clause_at;
 use propagation::clause_count;
 use propagation::effect_of;
 use propagation::fact;
+use propagation::next_hit;
 use propagation::pulled;
 use propagation::solve;
 use task::Action;
@@ -17,7 +18,7 @@ ghost use Prim.Native.Nat.{_+_, _-_, _*_, _<_, _≤_, _^_};
 ghost use lib.ListN.{length};
 ghost use lib.Dec.{T};
 ghost use Rattle.propagation.specs.Clauses.{OfLeaf, OfLeaves, Refutes};
-ghost use Rattle.propagation.specs.Propagation.{LeafOf, LeftOf, Tells, Settled, Opposed, Assumed, Decided, Ready, Model, Worth, Sought, Roomy, Before, Usable};
+ghost use Rattle.propagation.specs.Propagation.{LeafOf, LeftOf, Tells, Settled, Opposed, Assumed, Decided, Ready, Model, Worth, Sought, Roomy, Before, Opens, Usable};
 
 // The clause is taken to fail: its positive facts are off, its negative ones on. One that is met already is a conflict.
 fn opposite(x: Assignment, c: Clause) -> Assignment
@@ -34,14 +35,14 @@ fn opposite(x: Assignment, c: Clause) -> Assignment
 
 // The clause is taken to fail, and the left leaves are settled again where that says anything new.
 fn assume(file: &[u8], left: &[u32], k: Case, x: Assignment, c: Clause) -> Assignment
-    requires { ⌜ Roomy (now file) (now left) (k .m) × Settled (LeftOf (now file) (now left) k) x ⌝ }
-    ensures { λ r. ⌜ Assumed (LeftOf (now (file .entry)) (now (left .entry)) k) c x r ⌝ }
+    requires { ⌜ Roomy (now file) (now left) (k .m) × Settled (k .two) (LeftOf (now file) (now left) k) x ⌝ }
+    ensures { λ r. ⌜ Assumed (k .two) (LeftOf (now (file .entry)) (now (left .entry)) k) c x r ⌝ }
 {
     let y = opposite(x, c);
     if y.conflict {
         return y;
     }
-    if alike(x, y) {
+    if alike(k.two, x, y) {
         return y;
     }
     solve(file, left, k, false, x, y)
@@ -51,8 +52,8 @@ fn assume(file: &[u8], left: &[u32], k: Case, x: Assignment, c: Clause) -> Assig
 
 // Fact i is told off where the left leaves can be settled so, else on. A fact that is known stays as it is.
 fn decide(file: &[u8], left: &[u32], k: Case, x: Assignment, i: u32) -> Assignment
-    requires { ⌜ (i < 64) × Roomy (now file) (now left) (k .m) × Settled (LeftOf (now file) (now left) k) x ⌝ }
-    ensures { λ r. ⌜ Decided (LeftOf (now (file .entry)) (now (left .entry)) k) i x r ⌝ }
+    requires { ⌜ (i < 64) × Roomy (now file) (now left) (k .m) × Settled (k .two) (LeftOf (now file) (now left) k) x ⌝ }
+    ensures { λ r. ⌜ Decided (k .two) (LeftOf (now (file .entry)) (now (left .entry)) k) i x r ⌝ }
 {
     if ((x.on | x.off) >> i) % 2 == 1 {
         return x;
@@ -75,8 +76,8 @@ fn decide(file: &[u8], left: &[u32], k: Case, x: Assignment, i: u32) -> Assignme
 
 // Whether a state that agrees with a settled assignment meets the left leaves, which are two-literal.
 fn satisfiable(file: &[u8], left: &[u32], k: Case, start: Assignment) -> bool
-    requires { ⌜ Usable (now file) (now left) (k .m) true ⌝ }
-    requires { ⌜ (start .conflict ≡ false) × Ready (LeftOf (now file) (now left) k) start ⌝ }
+    requires { ⌜ (k .two ≡ true) × Usable (now file) (now left) (k .m) (k .two) ⌝ }
+    requires { ⌜ (start .conflict ≡ false) × Ready (k .two) (LeftOf (now file) (now left) k) start ⌝ }
     ensures { λ r. ⌜ Tells r (Model (LeftOf (now (file .entry)) (now (left .entry)) k) start) ⌝ }
 {
     let mut x = start;
@@ -93,35 +94,27 @@ fn satisfiable(file: &[u8], left: &[u32], k: Case, start: Assignment) -> bool
 
 // Whether what the search finds can be filled up to a state: false only where no state agrees with the settled assignment and
 // meets the left leaves.
-fn worth(file: &[u8], left: &[u32], k: Case, two: bool, x: Assignment) -> bool
-    requires { ⌜ Usable (now file) (now left) (k .m) two × Ready (LeftOf (now file) (now left) k) x ⌝ }
-    ensures { λ r. ⌜ Worth (LeftOf (now (file .entry)) (now (left .entry)) k) x r ⌝ }
+fn worth(file: &[u8], left: &[u32], k: Case, x: Assignment) -> bool
+    requires { ⌜ Usable (now file) (now left) (k .m) (k .two) × Ready (k .two) (LeftOf (now file) (now left) k) x ⌝ }
+    ensures { λ r. ⌜ Worth (k .two) (LeftOf (now (file .entry)) (now (left .entry)) k) x r ⌝ }
 {
     if x.conflict {
         return false;
     }
-    if two {
+    if k.two {
         return satisfiable(file, left, k, x);
     }
     true
 }
 
-// Whether two clauses are the same.
-fn same(c: Clause, d: Clause) -> bool
-    ensures { λ r. ⌜ (T r → c ≡ d) ⌝ }
-{
-    let p = c.positive;
-    let q = d.positive;
-    let m = c.negative;
-    let n = d.negative;
-    (p == q) & (m == n)
-}
-
-// Whether a leaf with these numbers is among the left leaves, asked about the state before the action.
+// Whether a leaf of clauses in the file with these numbers is among the left leaves, asked about the state before the action.
 fn is_before(left: &[u32], m: usize, kind: u32, at: u32, count: u32) -> bool
     requires { ⌜ 4 * m ≤ length (now left) ⌝ }
-    ensures { λ r. ⌜ (T r → Before (now (left .entry)) m kind at count) ⌝ }
+    ensures { λ r. ⌜ (T r → (3 ≤ kind) × Before (now (left .entry)) m kind at count) ⌝ }
 {
+    if kind < 3 {
+        return false;
+    }
     let mut j = 0;
     while j < m {
         let i = 4 * j;
@@ -133,12 +126,23 @@ fn is_before(left: &[u32], m: usize, kind: u32, at: u32, count: u32) -> bool
     false
 }
 
-// Whether x can be settled with a clause of each right leaf from j to 1 taken to fail. A right clause that the action leaves
-// as it is, and that is a left clause too, cannot fail.
+// The next clause from i on that can fail, of so many in the file. Where each is a left clause too (`before`), those that the
+// action leaves as they are cannot, and are passed over.
+fn next_open(file: &[u8], at: u32, count: u32, i: u32, before: bool, changed: u64) -> u32
+    requires { ⌜ (i ≤ count) × (before ≡ true → at + 16 * count ≤ length (now file)) ⌝ }
+    ensures { λ r. ⌜ Opens (now (file .entry)) at count i before changed r ⌝ }
+{
+    if before {
+        return next_hit(file, at, count, i, true, changed, changed);
+    }
+    i
+}
+
+// Whether x can be settled with a clause of each right leaf from j to 1 taken to fail. A clause that x meets cannot fail.
 fn seek(file: &[u8], left: &[u32], right: &[u32], k: Case, j: usize, x: Assignment) -> bool
     requires { ⌜ Roomy (now file) (now left) (k .m) × (8 ≤ length (now right)) × (j ≤ 2) ⌝ }
-    requires { ⌜ Ready (LeftOf (now file) (now left) k) x ⌝ }
-    ensures { λ r. ⌜ Sought r (LeftOf (now (file .entry)) (now (left .entry)) k) (LeafOf (now (file .entry)) (now (right .entry)) k) j x ⌝ }
+    requires { ⌜ Ready (k .two) (LeftOf (now file) (now left) k) x ⌝ }
+    ensures { λ r. ⌜ Sought (k .two) r (LeftOf (now (file .entry)) (now (left .entry)) k) (LeafOf (now (file .entry)) (now (right .entry)) k) j x ⌝ }
 {
     if x.conflict {
         return false;
@@ -156,17 +160,20 @@ fn seek(file: &[u8], left: &[u32], right: &[u32], k: Case, j: usize, x: Assignme
     let goal = k.goal;
     let mut i = 0u32;
     while i < many {
-        let d = clause_at(file, init, goal, kind, at, i);
-        let c = pulled(by, d);
-        if before & same(c, d) {
-            i += 1;
+        let o = next_open(file, at, many, i, before, by.changed);
+        if o == many {
+            return false;
+        }
+        let c = pulled(by, clause_at(file, init, goal, kind, at, o));
+        i = o + 1;
+        let z = opposite(x, c);
+        if z.conflict {
             continue;
         }
         let y = assume(file, left, k, x, c);
         if seek(file, left, right, k, j + 1, y) {
             return true;
         }
-        i += 1;
     }
     false
 }
@@ -202,6 +209,7 @@ pub fn refuted(
         init,
         goal,
         m,
+        two,
         action: a,
     };
     let nothing = Assignment {
@@ -215,7 +223,7 @@ pub fn refuted(
     };
     let y = solve(file, left, k, true, nothing, opposite(nothing, start));
     if seek(file, left, right, k, 0, y) {
-        return worth(file, left, k, two, y);
+        return worth(file, left, k, y);
     }
     false
 }

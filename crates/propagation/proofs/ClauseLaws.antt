@@ -1,12 +1,12 @@
 -- A clause is met by one of its literals; and a clause of the state after an action, as a clause of the state before it.
 -- Assumes nothing.
 use Prim.Native.Nat.{ℕ, _-_, min, max}
-use mathlib.Core.Path.{_≡_, refl, sym, ap₂, subst, _∙_}
+use mathlib.Core.Path.{_≡_, refl, sym, ap, ap₂, subst, _∙_}
 use mathlib.Core.Bool.{Bool, true, false, not}
 use mathlib.Core.Logic.{inl, inr}
 use native.Mathlib.Omega.{arith}
 use native.Mathlib.Decide.{decLt}
-use lib.Bits.{bitAnd, bitOr, or-zero-r}
+use lib.Bits.{bitAnd, bitOr, or-zero-r, and-zero-r}
 use lib.Dec.{T, eqb, eqb→eq}
 use Rattle.task.specs.declared.Action.{Action}
 use Rattle.task.specs.Facts.{allOn, without}
@@ -160,20 +160,28 @@ pulled-meets a s c =
     of-rest : (b : Bool) × (f : ℕ) × Has (rest a c) b f × (bit f s ≡ value b) → T (meets (after a s) c)
     of-rest (b, f, h, v) = let r = rest-has a c b f h in by-met (after a s) c b f (r .0) (fact-stays a s f (r .2) (r .1) ∙ v)
 
--- ---- a leaf that is asked about the state before the action is pulled through the action that does nothing
+-- ---- a clause of which the action changes no fact stays as it is
 
-pub untouched : (c : Clause) → pulled noAction c ≡ c
-unfolding noAction
-untouched c =
-    pulled-rest noAction c (not-of (metBy noAction c) (λ t. nothing (caught-by noAction c t)))
-    ∙ ap₂ (λ (p n : ℕ). record { positive = p; negative = n }) (kept (c .positive)) (kept (c .negative))
+pub pulled-missed : (a : Action) (c : Clause) → ((b : Bool) → bitAnd (mask b c) (bitOr (a .add) (a .del)) ≡ 0) → pulled a c ≡ c
+pulled-missed a c z =
+    pulled-rest a c (not-of (metBy a c) (λ t. nothing (caught-by a c t)))
+    ∙ ap₂ (λ (p n : ℕ). record { positive = p; negative = n }) (kept true) (kept false)
   where
-    kept : (m : ℕ) → without m (bitOr 0 0) ≡ m
-    kept m = same-bits _ _ (λ f. omega (arith, bit-without f m (bitOr 0 0), off-in (or-zero-r 0) f, bit-le f m))
+    -- a fact that the clause has is not changed
+    same : (b : Bool) (f : ℕ) → bit f (mask b c) ≡ 1 → max (bit f (a .add)) (bit f (a .del)) ≡ 0
+    same b f h = sym (bit-or f (a .add) (a .del)) ∙ omega (arith, off-in (z b) f, bit-and f (mask b c) (bitOr (a .add) (a .del)))
 
-    nothing : (b : Bool) × (f : ℕ) × Has c b f × (bit f (caught noAction b) ≡ 1) → ⊥
-    nothing (true, f, h, v) = omega (arith, off-in {m = 0} refl f)
-    nothing (false, f, h, v) = omega (arith, bit-without f 0 0, off-in {m = 0} refl f)
+    kept : (b : Bool) → without (mask b c) (bitOr (a .add) (a .del)) ≡ mask b c
+    kept b = same-bits _ _ (λ f. omega (arith, bit-without f (mask b c) (bitOr (a .add) (a .del)), off-in (z b) f, bit-and f (mask b c) (bitOr (a .add) (a .del)), bit-le f (mask b c)))
+
+    nothing : (b : Bool) × (f : ℕ) × Has c b f × (bit f (caught a b) ≡ 1) → ⊥
+    nothing (true, f, h, v) = omega (arith, same true f h)
+    nothing (false, f, h, v) = omega (arith, same false f h, bit-without f (a .del) (a .add))
+
+-- a leaf that is asked about the state before the action is pulled through the action that does nothing
+untouched : (c : Clause) → pulled noAction c ≡ c
+unfolding noAction
+untouched c = pulled-missed noAction c (λ b. ap (bitAnd (mask b c)) (or-zero-r 0) ∙ and-zero-r (mask b c))
 
 pub over-old : (a : Action) (t : Bool) (c : Clause) → overOld a t c ≡ pulled (acting a t) c
 unfolding overOld acting

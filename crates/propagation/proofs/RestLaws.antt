@@ -1,40 +1,72 @@
 -- A clause with no literal that fails anew stays settled, and so needs no look.
 -- Assumes nothing.
-use Prim.Native.Nat.{ℕ, _-_, _<_, _^_}
-use mathlib.Core.Path.{_≡_, refl, sym, ap, subst}
+use Prim.Native.Nat.{ℕ, _+_, _-_, _≤_, _<_, _^_}
+use mathlib.Core.Path.{_≡_, refl, sym, ap, subst, _∙_}
 use mathlib.Core.Bool.{Bool, true, false, not, true≢false, _||_}
 use mathlib.Core.Logic.{_⊎_, inl, inr}
+use mathlib.Core.List.{List}
 use native.Mathlib.Omega.{arith}
 use native.Mathlib.Decide.{decLt}
-use native.Mathlib.Nat.{le-refl, le-trans}
-use lib.Bits.{bitAnd, bitOr}
+use native.Mathlib.Nat.{le-refl}
+use lib.Bits.{bitAnd, bitOr, or-add-and, and-le-l, and-le-r}
 use lib.Dec.{eqb}
-use borrow.Author.Tests.{eqb-true, not-false}
 use Rattle.task.specs.Facts.{without}
+use Rattle.bytes.specs.Numbers.{turned8}
+use Rattle.bytes.proofs.TurnLaws.{clear8}
 use Rattle.task.proofs.Bits.{bit, bit-le, bit-none, bit-and, bit-or, bit-without}
 use Rattle.meaning.specs.declared.Clause.{Clause}
 use Rattle.propagation.specs.declared.Assignment.{Assignment}
 use Rattle.propagation.specs.declared.Effect.{Effect}
-use Rattle.propagation.specs.Propagation.{mask, holding, failing, pulledBy, Only, Held, Wide, Settled, Going, Passed, Grown, Untouched, Based}
+use Rattle.propagation.specs.Propagation.{mask, failing, pulledBy, Only, Held, Wide, Quiet, Going, Grown, Looked, Passed, Misses, MissedAt, Spared, Untouched, Based, Below, ofWords, wordsAt}
 use Rattle.propagation.proofs.OneFact.{bit-same}
-use Rattle.propagation.proofs.PassLaws.{wide-as}
+use Rattle.propagation.proofs.PassLaws.{going-none, stays, quiet-any, looked-longer, passed-past}
 
 -- ---- what the test tells
 
-untouched-by : (b x : Assignment) (c : Clause) → bitOr (bitAnd (c .positive) (without (x .off) (b .off))) (bitAnd (c .negative) (without (x .on) (b .on))) ≡ 0 → Untouched b x c
-untouched-by b x c e true f h t =
-    elim (decLt (bit f (b .off)) 1) [
-      | yes l ↦ absurd (omega (arith, bit-none f, ap (bit f) e, bit-or f (bitAnd (c .positive) (without (x .off) (b .off))) (bitAnd (c .negative) (without (x .on) (b .on))), bit-and f (c .positive) (without (x .off) (b .off)), bit-without f (x .off) (b .off)))
-      | no l ↦ omega (arith, bit-le f (b .off))
-    ]
-untouched-by b x c e false f h t =
-    elim (decLt (bit f (b .on)) 1) [
-      | yes l ↦ absurd (omega (arith, bit-none f, ap (bit f) e, bit-or f (bitAnd (c .positive) (without (x .off) (b .off))) (bitAnd (c .negative) (without (x .on) (b .on))), bit-and f (c .negative) (without (x .on) (b .on)), bit-without f (x .on) (b .on)))
-      | no l ↦ omega (arith, bit-le f (b .on))
+pub neither : (a b : ℕ) → bitOr a b ≡ 0 → (a ≡ 0) × (b ≡ 0)
+neither a b e = (omega (arith, or-add-and a b, and-le-l a b, and-le-r a b), omega (arith, or-add-and a b, and-le-l a b, and-le-r a b))
+
+-- of four in a row
+pub four-zero : (M : ℕ → Type 0) (i a b c d : ℕ) → (a ≡ 0 → M i) → (b ≡ 0 → M (i + 1)) → (c ≡ 0 → M (i + 2)) → (d ≡ 0 → M (i + 3)) → bitOr (bitOr (bitOr a b) c) d ≡ 0
+    → (j : ℕ) → i ≤ j → j < i + 4 → M j
+four-zero M i a b c d ha hb hc hd e j l h =
+    let z = neither (bitOr (bitOr a b) c) d e in
+    let y = neither (bitOr a b) c (z .0) in
+    let x = neither a b (y .0) in
+    elim (decLt j (i + 1)) [
+      | yes p ↦ subst M (omega arith) (ha (x .0))
+      | no p ↦ elim (decLt j (i + 2)) [
+        | yes q ↦ subst M (omega arith) (hb (x .1))
+        | no q ↦ elim (decLt j (i + 3)) [ yes r ↦ subst M (omega arith) (hc (y .1)) | no r ↦ subst M (omega arith) (hd (z .1)) ]
+      ]
     ]
 
-pub touched-not : (b x : Assignment) (c : Clause) → not (eqb (bitOr (bitAnd (c .positive) (without (x .off) (b .off))) (bitAnd (c .negative) (without (x .on) (b .on)))) 0) ≡ false → Untouched b x c
-touched-not b x c e = untouched-by b x c (eqb-true _ 0 (not-false _ e))
+pub missed-one : (M : ℕ → Type 0) (i : ℕ) → M i → (j : ℕ) → i ≤ j → j < i + 1 → M j
+missed-one M i m j l h = subst M (omega arith) m
+
+-- up to k, and from there on
+pub missed-more : {M : ℕ → Type 0} {i k n : ℕ} → ((j : ℕ) → i ≤ j → j < k → M j) → ((j : ℕ) → k ≤ j → j < n → M j) → (j : ℕ) → i ≤ j → j < n → M j
+missed-more {M} {i} {k} {n} u v j l h = elim (decLt j k) [ yes p ↦ u j l p | no p ↦ v j (omega arith) h ]
+
+-- what the bytes of a clause and of masks have in common, in either order
+pub hit-misses : (two : Bool) (p n off on : ℕ) → p < 2 ^ 64 → n < 2 ^ 64 → off < 2 ^ 64 → on < 2 ^ 64 → bitOr (bitAnd (turned8 p) (turned8 off)) (bitAnd (turned8 n) (turned8 on)) ≡ 0
+    → Misses two off on (record { positive = p; negative = n })
+hit-misses two p n off on hp hn ho hi e =
+    let z = neither (bitAnd (turned8 p) (turned8 off)) (bitAnd (turned8 n) (turned8 on)) e in
+    ((λ t. clear8 p off hp ho (z .0)), clear8 n on hn hi (z .1))
+
+pub hit-body : {two : Bool} (p n off on : ℕ) → two ≡ false → n < 2 ^ 64 → on < 2 ^ 64 → bitAnd (turned8 n) (turned8 on) ≡ 0 → Misses two off on (record { positive = p; negative = n })
+hit-body p n off on s hn hi e = ((λ t. absurd (true≢false (sym t ∙ s))), clear8 n on hn hi e)
+
+spared-by : (s : Bool) (b x : Assignment) (c : Clause) → bitAnd (mask s c) (without (failing s x) (failing s b)) ≡ 0 → Spared s b x c
+spared-by s b x c e f h t =
+    elim (decLt (bit f (failing s b)) 1) [
+      | yes l ↦ absurd (omega (arith, bit-none f, ap (bit f) e, bit-and f (mask s c) (without (failing s x) (failing s b)), bit-without f (failing s x) (failing s b)))
+      | no l ↦ omega (arith, bit-le f (failing s b))
+    ]
+
+missed-untouched : {two : Bool} (b x : Assignment) (c : Clause) → Misses two (without (x .off) (b .off)) (without (x .on) (b .on)) c → Untouched two b x c
+missed-untouched b x c m = ((λ t. spared-by true b x c (m .0 t)), spared-by false b x c (m .1))
 
 -- ---- what stays settled
 
@@ -64,44 +96,48 @@ always x =
     fits true = omega arith
     fits false = omega arith
 
-stays : (b x : Assignment) (c : Clause) → Grown b x → Untouched b x c → Held b c ⊎ Wide b c → Held x c ⊎ Wide x c
-stays b x c g u (inl t) = inl (record { side = t .side; fact = t .fact; has = t .has; holds = omega (arith, t .holds, g (t .side) (t .fact), bit-le (t .fact) (holding (t .side) x)) })
-stays b x c g u (inr t) = inr (wide-as still t)
-  where
-    still : (s : Bool) (f : ℕ) → bit f (mask s c) ≡ 1 → bit f (failing s b) ≡ 0 → bit f (failing s x) ≡ 0
-    still s f h o =
-        elim (decLt (bit f (failing s x)) 1) [
-          | yes l ↦ omega arith
-          | no l ↦ absurd (omega (arith, o, u s f h (omega (arith, bit-le f (failing s x)))))
-        ]
-
 -- what the action leaves of a clause has no other literals
-pulled-stays : (k : Effect) (b x : Assignment) (w : Clause) → Grown b x → Untouched b x w → Held b (pulledBy k w) ⊎ Wide b (pulledBy k w) → Held x (pulledBy k w) ⊎ Wide x (pulledBy k w)
+pulled-stays : (two : Bool) (k : Effect) (b x : Assignment) (w : Clause) → Grown b x → Untouched two b x w → Quiet two b (pulledBy k w) → Quiet two x (pulledBy k w)
 unfolding pulledBy
-pulled-stays k b x w g u = go (not (eqb (bitAnd (w .positive) (k .add)) 0) || not (eqb (bitAnd (w .negative) (k .gone)) 0))
+pulled-stays two k b x w g u = go (not (eqb (bitAnd (w .positive) (k .add)) 0) || not (eqb (bitAnd (w .negative) (k .gone)) 0))
   where
     less : Clause
     less = record { positive = without (w .positive) (k .changed); negative = without (w .negative) (k .changed) }
 
-    fewer : Untouched b x less
-    fewer true f h t = u true f (omega (arith, bit-without f (w .positive) (k .changed), bit-le f (w .positive))) t
-    fewer false f h t = u false f (omega (arith, bit-without f (w .negative) (k .changed), bit-le f (w .negative))) t
+    fewer : (s : Bool) → Spared s b x w → Spared s b x less
+    fewer true v f h t = v f (omega (arith, bit-without f (w .positive) (k .changed), bit-le f (w .positive))) t
+    fewer false v f h t = v f (omega (arith, bit-without f (w .negative) (k .changed), bit-le f (w .negative))) t
 
-    go : (m : Bool) → Held b (elim m [ true ↦ record { positive = 1; negative = 1 } | false ↦ less ]) ⊎ Wide b (elim m [ true ↦ record { positive = 1; negative = 1 } | false ↦ less ])
-        → Held x (elim m [ true ↦ record { positive = 1; negative = 1 } | false ↦ less ]) ⊎ Wide x (elim m [ true ↦ record { positive = 1; negative = 1 } | false ↦ less ])
-    go true h = always x
-    go false h = stays b x less g fewer h
+    go : (m : Bool) → Quiet two b (elim m [ true ↦ record { positive = 1; negative = 1 } | false ↦ less ]) → Quiet two x (elim m [ true ↦ record { positive = 1; negative = 1 } | false ↦ less ])
+    go true h = quiet-any two (always x)
+    go false h = stays b x less two g ((λ e. fewer true (u .0 e)), fewer false (u .1)) h
 
 -- a clause that is not looked at
-pub passed-rest : (k : Effect) (b x : Assignment) (w : Clause) → Grown b x → Untouched b x w → Settled (Only (pulledBy k w)) b → Passed (Only (pulledBy k w)) x x
-passed-rest k b x w g u h =
+pub passed-rest : {two : Bool} (k : Effect) (b x : Assignment) (w : Clause) → Untouched two b x w → Looked two b x (pulledBy k w) → Passed two (Only (pulledBy k w)) x x
+passed-rest {two} k b x w u l =
     record {
-      goes = record { sound = λ s m a. a; grows = λ s f. le-refl _; calm = λ z. z; apart = λ z a. a };
-      settled = λ e z d q. subst (λ (d : Clause). Held x d ⊎ Wide x d) (sym q) (pulled-stays k b x w g u (h (pulledBy k w) refl));
+      goes = going-none _ x;
+      looked = λ z d q.
+          record {
+            seen = x;
+            after = λ s f. le-refl _;
+            until = λ s f. le-refl _;
+            settled = subst (Quiet two x) (sym q) (pulled-stays two k (l .seen) x w (l .until) ((λ e. since true (u .0 e)), since false (u .1)) (l .settled));
+          };
     }
+  where
+    since : (s : Bool) → Spared s b x w → Spared s (l .seen) x w
+    since s v f h t = omega (arith, v f h t, l .after (not s) f, bit-le f (failing s (l .seen)))
 
 -- ---- what looks may rest on
 
 -- x may grow, and there may be fewer clauses
-pub based-on : {P Q : Clause → Type 0} {full : Bool} {S : ℕ → Type 0} {b x y : Assignment} → ((c : Clause) → Q c → P c) → Based P full b x → Going S x y → Based Q full b y
-based-on to r g e = let h = r e in ((λ c q. h .0 c (to c q)), (λ s f. le-trans (h .1 s f) (g .grows s f)))
+pub based-on : {two : Bool} {P Q : Clause → Type 0} {full : Bool} {S : ℕ → Type 0} {b x y : Assignment} → ((c : Clause) → Q c → P c) → Based two P full b x → Going S x y → Based two Q full b y
+based-on to r g e c q = looked-longer (λ s f. le-refl _) (g .grows) (r e c (to c q))
+
+-- clauses that miss what came to fail since the base need no look
+pub passed-missed : {two : Bool} (bytes : List ℕ) (at count : ℕ) (by : Effect) (b x y : Assignment) (i k off on : ℕ) → Based two (Below (ofWords bytes at by) count) false b x → i ≤ k → k ≤ count
+    → off ≡ without (y .off) (b .off) → on ≡ without (y .on) (b .on) → MissedAt bytes at two off on i k → Passed two (Below (ofWords bytes at by) i) x y → Passed two (Below (ofWords bytes at by) k) x y
+passed-missed bytes at count by b x y i k off on r l h p q m u =
+    passed-past (ofWords bytes at by) i k l u (λ j g n.
+    passed-rest by b y (wordsAt bytes at j) (missed-untouched b y (wordsAt bytes at j) (rw (p, q) at (m j g n))) (based-on {Q = ofWords bytes at by j} (λ d e. (j, omega arith, e)) r (u .goes) refl _ refl))

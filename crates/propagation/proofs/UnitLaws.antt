@@ -81,15 +81,15 @@ module _ (x : Assignment) (c : Clause) (lp ln : ℕ) (hp : c .positive < 2 ^ 64)
       alive true f v = elim (decLt (bit f (x .off)) 1) [ yes l ↦ omega arith | no l ↦ absurd (omega (arith, g .says false f (omega (arith, bit-le f (x .off))))) ]
       alive false f v = elim (decLt (bit f (x .on)) 1) [ yes l ↦ omega arith | no l ↦ absurd (omega (arith, g .says true f (omega (arith, bit-le f (x .on))))) ]
 
-  same : Held x c ⊎ Wide x c → Passed (Only c) x x
+  same : Held x c ⊎ Wide x c → Passed true (Only c) x x
   same h =
       record {
         goes = record { sound = λ s m g. g; grows = λ b f. le-refl _; calm = λ z. z; apart = λ z a. a };
-        settled = λ e z d q. subst (λ (d : Clause). Held x d ⊎ Wide x d) (sym q) h;
+        looked = λ z d q. record { seen = x; after = λ b f. le-refl _; until = λ b f. le-refl _; settled = subst (λ (d : Clause). Held x d ⊎ Wide x d) (sym q) h };
       }
 
   -- a literal of the clause holds already
-  pub met-already : (bitOr (bitAnd (c .positive) (x .on)) (bitAnd (c .negative) (x .off)) ≡ 0 → ⊥) → Passed (Only c) x x
+  pub met-already : (bitOr (bitAnd (c .positive) (x .on)) (bitAnd (c .negative) (x .off)) ≡ 0 → ⊥) → Passed true (Only c) x x
   met-already h =
       let r = on-in (bitOr (bitAnd (c .positive) (x .on)) (bitAnd (c .negative) (x .off))) h in
       let f = r .0 in
@@ -104,7 +104,7 @@ module _ (x : Assignment) (c : Clause) (lp ln : ℕ) (hp : c .positive < 2 ^ 64)
             same (inl (record { side = true; fact = f; has = omega (arith, bit-le f (c .positive)); holds = omega (arith, bit-le f (x .on)) }))
       ]
 
-  wide : (a b : Bool) (f g : ℕ) → (a ≡ b → f ≡ g → ⊥) → bit f (left a) ≡ 1 → bit g (left b) ≡ 1 → Passed (Only c) x x
+  wide : (a b : Bool) (f g : ℕ) → (a ≡ b → f ≡ g → ⊥) → bit f (left a) ≡ 1 → bit g (left b) ≡ 1 → Passed true (Only c) x x
   wide a b f g d u v =
       let k = is-left a f u in
       let l = is-left b g v in
@@ -122,16 +122,16 @@ module _ (x : Assignment) (c : Clause) (lp ln : ℕ) (hp : c .positive < 2 ^ 64)
       }))
 
   -- a literal is left on each side, or two on one
-  pub stays-open : (lp ≡ 0 → ⊥) → (ln ≡ 0 → ⊥) → Passed (Only c) x x
+  pub stays-open : (lp ≡ 0 → ⊥) → (ln ≡ 0 → ⊥) → Passed true (Only c) x x
   stays-open h k = let u = on-in lp h in let v = on-in ln k in wide true false (u .0) (v .0) (λ e d. true≢false e) (u .1) (v .1)
 
-  pub stays-wide : (a : Bool) → (left a ≡ 0 → ⊥) → (bitAnd (left a) (left a - 1) ≡ 0 → ⊥) → Passed (Only c) x x
+  pub stays-wide : (a : Bool) → (left a ≡ 0 → ⊥) → (bitAnd (left a) (left a - 1) ≡ 0 → ⊥) → Passed true (Only c) x x
   stays-wide a some many =
       let r = two-bits (left a) (pos-of-ne-zero some) many in
       wide a a (r .fact₁) (r .fact₂) (λ e d. r .differ d) (r .has₁) (r .has₂)
 
   -- no literal is left
-  pub conflicting : lp ≡ 0 → ln ≡ 0 → Passed (Only c) x (record { on = x .on; off = x .off; conflict = true })
+  pub conflicting : lp ≡ 0 → ln ≡ 0 → Passed true (Only c) x (record { on = x .on; off = x .off; conflict = true })
   conflicting zp zn =
       record {
         goes =
@@ -141,7 +141,7 @@ module _ (x : Assignment) (c : Clause) (lp ln : ℕ) (hp : c .positive < 2 ^ 64)
               calm = λ z. absurd (true≢false z);
               apart = λ z. absurd (true≢false z);
             };
-        settled = λ e z. absurd (true≢false z);
+        looked = λ z. absurd (true≢false z);
       }
     where
       none : (s : ℕ) → (b : Bool) × (f : ℕ) × (bit f (left b) ≡ 1) × (bit f s ≡ value b) → ⊥
@@ -152,9 +152,9 @@ module _ (x : Assignment) (c : Clause) (lp ln : ℕ) (hp : c .positive < 2 ^ 64)
       unchanged true f = le-refl _
       unchanged false f = le-refl _
 
-  -- one literal is left, and no literal holds yet
-  pub forces : (a : Bool) → left (not a) ≡ 0 → (left a ≡ 0 → ⊥) → bitAnd (left a) (left a - 1) ≡ 0 → bitOr (bitAnd (c .positive) (x .on)) (bitAnd (c .negative) (x .off)) ≡ 0 → Passed (Only c) x (told a (left a) x)
-  forces a none some one unmet =
+  -- one literal is left
+  pub forces : (a : Bool) → left (not a) ≡ 0 → (left a ≡ 0 → ⊥) → bitAnd (left a) (left a - 1) ≡ 0 → Passed true (Only c) x (told a (left a) x)
+  forces a none some one =
       record {
         goes =
             record {
@@ -172,15 +172,19 @@ module _ (x : Assignment) (c : Clause) (lp ln : ℕ) (hp : c .positive < 2 ^ 64)
               calm = λ z. sym (told-calm a (left a) x) ∙ z;
               apart = λ z. told-apart a (left a) x (λ f. omega (arith, in-left a f, bit-le f (failing a x)));
             };
-        settled = λ e z. absurd (let r = on-in (left a) some in omega (arith, told-new a (left a) x (r .0) (r .1), ap (bit (r .0)) (e a), unheld a (r .0) (is-left a (r .0) (r .1) .0)));
+        looked = λ z d q.
+            let y = told a (left a) x in
+            let r = on-in (left a) some in
+            record {
+              seen = y;
+              after = told-grows a (left a) x;
+              until = λ b f. le-refl _;
+              settled = subst (λ (d : Clause). Held y d ⊎ Wide y d) (sym q) (inl (record { side = a; fact = r .0; has = is-left a (r .0) (r .1) .0; holds = told-new a (left a) x (r .0) (r .1) }));
+            };
       }
     where
       alone : (f g : ℕ) → bit f (left a) ≡ 1 → bit g (left a) ≡ 1 → f ≡ g
       alone = one-bit (left a) (pos-of-ne-zero some) one
-
-      unheld : (b : Bool) (f : ℕ) → Has c b f → bit f (holding b x) ≡ 0
-      unheld true f h = omega (arith, off-in unmet f, bit-or f (bitAnd (c .positive) (x .on)) (bitAnd (c .negative) (x .off)), bit-and f (c .positive) (x .on))
-      unheld false f h = omega (arith, off-in unmet f, bit-or f (bitAnd (c .positive) (x .on)) (bitAnd (c .negative) (x .off)), bit-and f (c .negative) (x .off))
 
       chosen : (s : ℕ) → (b : Bool) × (f : ℕ) × (bit f (left b) ≡ 1) × (bit f s ≡ value b) → (f : ℕ) × (bit f (left a) ≡ 1) × (bit f s ≡ value a)
       chosen s (b, f, u, v) =

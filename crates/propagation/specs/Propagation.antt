@@ -126,8 +126,24 @@ pub record Wide (x : Assignment) (c : Clause) : Type 0 where
   pub open₁ : bit fact₁ (failing side₁ x) ≡ 0
   pub open₂ : bit fact₂ (failing side₂ x) ≡ 0
 
-abbrev pub Settled : (Clause → Type 0) → Assignment → Type 0
-Settled P x = (c : Clause) → P c → Held x c ⊎ Wide x c
+-- a negative literal of the clause is not known to fail: its body is not all on
+pub record Waiting (x : Assignment) (c : Clause) : Type 0 where
+  pub fact : ℕ
+  pub has : bit fact (c .negative) ≡ 1
+  pub not-on : bit fact (x .on) ≡ 0
+
+-- at most one positive fact, the head; the negative ones are the body
+abbrev pub Horn : Clause → Type 0
+Horn c = (f g : ℕ) → f < 64 → g < 64 → bit f (c .positive) ≡ 1 → bit g (c .positive) ≡ 1 → f ≡ g
+
+-- nothing follows from the clause: one literal holds, or two are open. Where only Horn clauses matter (`two` is false), it is
+-- enough that the body is not all on, whatever is known of the head
+abbrev pub Quiet : Bool → Assignment → Clause → Type 0
+Quiet true x c = Held x c ⊎ Wide x c
+Quiet false x c = Horn c → Held x c ⊎ Waiting x c
+
+abbrev pub Settled : Bool → (Clause → Type 0) → Assignment → Type 0
+Settled two P x = (c : Clause) → P c → Quiet two x c
 
 -- ---- what a function makes of an assignment
 
@@ -138,31 +154,49 @@ pub record Going (S : ℕ → Type 0) (x r : Assignment) : Type 0 where
   pub calm : r .conflict ≡ false → x .conflict ≡ false
   pub apart : r .conflict ≡ false → Apart x → Apart r
 
--- the two say the same
-abbrev pub Alike : Assignment → Assignment → Type 0
-Alike x r = (b : Bool) → holding b x ≡ holding b r
+-- the two say the same, or, where only Horn clauses matter, the same of what is on
+abbrev pub Alike : Bool → Assignment → Assignment → Type 0
+Alike two x r = (x .on ≡ r .on) × (two ≡ true → x .off ≡ r .off)
 
 -- x says no less than b
 abbrev pub Grown : Assignment → Assignment → Type 0
 Grown b x = (s : Bool) (f : ℕ) → bit f (holding s b) ≤ bit f (holding s x)
 
--- no literal of the clause fails in x that did not fail in b
-abbrev pub Untouched : Assignment → Assignment → Clause → Type 0
-Untouched b x c = (s : Bool) (f : ℕ) → bit f (mask s c) ≡ 1 → bit f (failing s x) ≡ 1 → bit f (failing s b) ≡ 1
+-- no literal of a side of the clause fails in x that did not fail in b; none at all, or, where only Horn clauses matter, none of the body
+abbrev pub Spared : Bool → Assignment → Assignment → Clause → Type 0
+Spared s b x c = (f : ℕ) → bit f (mask s c) ≡ 1 → bit f (failing s x) ≡ 1 → bit f (failing s b) ≡ 1
 
--- what looks at x may rest on, unless each clause is looked at: b has P settled, and x has grown from it
-abbrev pub Based : (Clause → Type 0) → Bool → Assignment → Assignment → Type 0
-Based P full b x = full ≡ false → Settled P b × Grown b x
+abbrev pub Untouched : Bool → Assignment → Assignment → Clause → Type 0
+Untouched two b x c = (two ≡ true → Spared true b x c) × Spared false b x c
 
--- one look at each clause of P: where nothing changed, each is settled
-pub record Passed (P : Clause → Type 0) (x r : Assignment) : Type 0 where
+-- the clause has no negative fact of the one mask and no positive one of the other, which is not asked where only Horn clauses matter
+abbrev pub Misses : Bool → ℕ → ℕ → Clause → Type 0
+Misses two off on c = (two ≡ true → bitAnd (c .positive) off ≡ 0) × (bitAnd (c .negative) on ≡ 0)
+
+-- so do the clauses in the file from i up to k
+abbrev pub MissedAt : List ℕ → ℕ → Bool → ℕ → ℕ → ℕ → ℕ → Type 0
+MissedAt bytes at two off on i k = (j : ℕ) → i ≤ j → j < k → Misses two off on (wordsAt bytes at j)
+
+-- the clause was settled at some time from b to x
+pub record Looked (two : Bool) (b x : Assignment) (c : Clause) : Type 0 where
+  pub seen : Assignment
+  pub after : Grown b seen
+  pub until : Grown seen x
+  pub settled : Quiet two seen c
+
+-- what looks at x may rest on, unless each clause is looked at: each was settled at some time from b on
+abbrev pub Based : Bool → (Clause → Type 0) → Bool → Assignment → Assignment → Type 0
+Based two P full b x = full ≡ false → (c : Clause) → P c → Looked two b x c
+
+-- one look at each clause of P, up to a conflict
+pub record Passed (two : Bool) (P : Clause → Type 0) (x r : Assignment) : Type 0 where
   pub goes : Going (Meets P) x r
-  pub settled : Alike x r → r .conflict ≡ false → Settled P x
+  pub looked : r .conflict ≡ false → (c : Clause) → P c → Looked two x r c
 
 -- looks until nothing changes, or up to a conflict
-pub record Solved (P : Clause → Type 0) (x r : Assignment) : Type 0 where
+pub record Solved (two : Bool) (P : Clause → Type 0) (x r : Assignment) : Type 0 where
   pub goes : Going (Meets P) x r
-  pub settled : r .conflict ≡ false → Settled P r
+  pub settled : r .conflict ≡ false → Settled two P r
 
 -- the clause c is taken to fail
 pub record Opposed (c : Clause) (x r : Assignment) : Type 0 where
@@ -170,28 +204,28 @@ pub record Opposed (c : Clause) (x r : Assignment) : Type 0 where
   pub told : (b : Bool) (f : ℕ) → bit f (mask b c) ≡ 1 → bit f (failing b r) ≡ 1
 
 -- the clause c is taken to fail, and P settled again
-pub record Assumed (P : Clause → Type 0) (c : Clause) (x r : Assignment) : Type 0 where
+pub record Assumed (two : Bool) (P : Clause → Type 0) (c : Clause) (x r : Assignment) : Type 0 where
   pub goes : Going (λ s. Meets P s × T (not (meets s c))) x r
   pub told : (b : Bool) (f : ℕ) → bit f (mask b c) ≡ 1 → bit f (failing b r) ≡ 1
-  pub settled : r .conflict ≡ false → Settled P x → Settled P r
+  pub settled : r .conflict ≡ false → Settled two P x → Settled two P r
 
 -- a calm assignment that has P settled leaves a state open that meets P. So it is where P is Horn, or two-literal with a model
-abbrev pub Fillable : (Clause → Type 0) → Type 0
-Fillable P = (r : Assignment) → r .on < 2 ^ 64 → r .conflict ≡ false → Apart r → Settled P r → (s : ℕ) × Agrees s r × Meets P s
+abbrev pub Fillable : Bool → (Clause → Type 0) → Type 0
+Fillable two P = (r : Assignment) → r .on < 2 ^ 64 → r .conflict ≡ false → Apart r → Settled two P r → (s : ℕ) × Agrees s r × Meets P s
 
 -- fact i is known, and P still settled; a conflict where no state that agrees with x meets P
-pub record Decided (P : Clause → Type 0) (i : ℕ) (x r : Assignment) : Type 0 where
+pub record Decided (two : Bool) (P : Clause → Type 0) (i : ℕ) (x r : Assignment) : Type 0 where
   pub goes : Going (λ s. ⊥) x r
   pub known : 1 ≤ bit i (r .on) + bit i (r .off)
-  pub settled : r .conflict ≡ false → Settled P x → Settled P r
+  pub settled : r .conflict ≡ false → Settled two P x → Settled two P r
   pub none : r .conflict ≡ true → (s : ℕ) → Agrees s x → Meets P s → ⊥
 
 -- ---- the search
 
 -- where an assignment is calm, it has P settled
-pub record Ready (P : Clause → Type 0) (x : Assignment) : Type 0 where
+pub record Ready (two : Bool) (P : Clause → Type 0) (x : Assignment) : Type 0 where
   pub apart : x .conflict ≡ false → Apart x
-  pub settled : x .conflict ≡ false → Settled P x
+  pub settled : x .conflict ≡ false → Settled two P x
 
 -- a state that agrees with x, meets P and fails a clause of each of the right leaves from j to 1
 pub record Witness (P : Clause → Type 0) (Q : ℕ → Clause → Type 0) (j : ℕ) (x : Assignment) : Type 0 where
@@ -201,18 +235,18 @@ pub record Witness (P : Clause → Type 0) (Q : ℕ → Clause → Type 0) (j : 
   pub fails : (k : ℕ) → j ≤ k → k < 2 → Fails (Q k) state
 
 -- an assignment grown from x that has P settled and fails a clause of each of the right leaves from j to 1
-pub record Candidate (P : Clause → Type 0) (Q : ℕ → Clause → Type 0) (j : ℕ) (x : Assignment) : Type 0 where
+pub record Candidate (two : Bool) (P : Clause → Type 0) (Q : ℕ → Clause → Type 0) (j : ℕ) (x : Assignment) : Type 0 where
   pub grown : Assignment
   pub goes : Going (λ s. ⊥) x grown
   pub fits : grown .on < 2 ^ 64
   pub calm : grown .conflict ≡ false
   pub apart : Apart grown
-  pub settled : Settled P grown
+  pub settled : Settled two P grown
   pub fails : (k : ℕ) → j ≤ k → k < 2 → (c : Clause) × Q k c × ((b : Bool) (f : ℕ) → bit f (mask b c) ≡ 1 → bit f (failing b grown) ≡ 1)
 
 -- a test that finds a candidate, and one wherever there is a witness
-pub record Sought (r : Bool) (P : Clause → Type 0) (Q : ℕ → Clause → Type 0) (j : ℕ) (x : Assignment) : Type 0 where
-  pub finds : T r → Candidate P Q j x
+pub record Sought (two r : Bool) (P : Clause → Type 0) (Q : ℕ → Clause → Type 0) (j : ℕ) (x : Assignment) : Type 0 where
+  pub finds : T r → Candidate two P Q j x
   pub sees : Witness P Q j x → T r
 
 -- a state that agrees with x and meets P
@@ -220,8 +254,8 @@ abbrev pub Model : (Clause → Type 0) → Assignment → Type 0
 Model P x = (s : ℕ) × Agrees s x × Meets P s
 
 -- a test that fails only where there is no such state, and holds only where P can be filled
-pub record Worth (P : Clause → Type 0) (x : Assignment) (r : Bool) : Type 0 where
-  pub fills : T r → Fillable P
+pub record Worth (two : Bool) (P : Clause → Type 0) (x : Assignment) (r : Bool) : Type 0 where
+  pub fills : T r → Fillable two P
   pub sees : Model P x → T r
 
 -- ---- what callers owe
@@ -246,6 +280,11 @@ abbrev pub Before : List ℕ → ℕ → ℕ → ℕ → ℕ → Type 0
 Before leaves m kind at count =
     (j : ℕ) × (j < m) × (getD leaves (4 * j) 0 ≡ kind) × (getD leaves (4 * j + 1) 0 ≡ at) × (getD leaves (4 * j + 2) 0 ≡ count)
     × (eqb (getD leaves (4 * j + 3) 0) 1 ≡ false)
+
+-- of the clauses from i on up to r, each may be passed over (`before`), and an action that changes these facts leaves it as it is
+abbrev pub Opens : List ℕ → ℕ → ℕ → ℕ → Bool → ℕ → ℕ → Type 0
+Opens bytes at count i before changed r =
+    (i ≤ r) × (r ≤ count) × ((j : ℕ) → i ≤ j → j < r → (before ≡ true) × Misses true changed changed (wordsAt bytes at j))
 
 -- m leaves whose clauses in the file keep to the rule
 pub record Usable (bytes leaves : List ℕ) (m : ℕ) (two : Bool) : Type 0 where

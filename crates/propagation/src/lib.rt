@@ -1,7 +1,9 @@
 // Unit propagation over the clauses of leaves, for one action: what an assignment comes to know where each clause is to hold, until nothing
 // changes. Clauses are read from the file whenever they are looked at; none is kept.
+use bytes::turned;
 use bytes::u64_at;
 use bytes::u64_in;
+use bytes::u64_turned;
 use meaning::Clause;
 use task::Action;
 ghost use mathlib.Core.Path.{_≡_};
@@ -10,7 +12,7 @@ ghost use Prim.Native.Nat.{_+_, _-_, _*_, _<_, _≤_, _^_};
 ghost use lib.ListN.{length};
 ghost use Rattle.task.specs.Facts.{without};
 ghost use Rattle.propagation.specs.Clauses.{clauseAt, clauseCount, sameAs, onIn};
-ghost use Rattle.propagation.specs.Propagation.{acting, effectOf, pulledBy, wordsAt, Only, Below, ofWords, ofKind, LeafOf, LeftOf, Alike, Tells, Untouched, Based, Passed, Solved, RoomAt, Roomy};
+ghost use Rattle.propagation.specs.Propagation.{acting, effectOf, pulledBy, wordsAt, Only, Below, ofWords, ofKind, LeafOf, LeftOf, Alike, Tells, Misses, MissedAt, Based, Passed, Solved, RoomAt, Roomy};
 
 // Facts known to be on and facts known to be off.
 pub struct Assignment {
@@ -174,7 +176,7 @@ pub fn pulled(by: Effect, c: Clause) -> Clause
 
 // A look at one clause: where one literal is left it is told, and where none is there is a conflict.
 fn unit(x: Assignment, c: Clause) -> Assignment
-    ensures { λ r. ⌜ Passed (Only c) x r ⌝ }
+    ensures { λ r. ⌜ Passed true (Only c) x r ⌝ }
 {
     let on = x.on;
     let off = x.off;
@@ -215,21 +217,67 @@ fn unit(x: Assignment, c: Clause) -> Assignment
     x
 }
 
-// Whether a literal of the clause fails that did not fail in the base.
-fn touched(base: Assignment, x: Assignment, c: Clause) -> bool
-    ensures { λ r. ⌜ (r ≡ false → Untouched base x c) ⌝ }
+// What a clause in the file has in common with masks, its bytes in the machine's order: 0 only where that is nothing. Of Horn
+// clauses only the body is looked at.
+fn hit(file: &[u8], at: u32, i: u32, two: bool, off: u64, on: u64) -> u64
+    requires { ⌜ at + 16 * i + 16 ≤ length (now file) ⌝ }
+    ensures { λ r. ⌜ (r ≡ 0 → Misses two off on (wordsAt (now (file .entry)) at i)) ⌝ }
 {
-    let p = c.positive;
-    let n = c.negative;
-    let off = without(x.off, base.off);
-    let on = without(x.on, base.on);
-    (p & off) | (n & on) != 0
+    let place = at as usize + 16 * (i as usize);
+    let n = u64_turned(file, place + 8);
+    if two {
+        let p = u64_turned(file, place);
+        return (p & turned(off)) | (n & turned(on));
+    }
+    n & turned(on)
+}
+
+// The same of four clauses.
+fn four_hit(file: &[u8], at: u32, i: u32, two: bool, off: u64, on: u64) -> u64
+    requires { ⌜ (i + 4 < 2 ^ 32) × (at + 16 * i + 64 ≤ length (now file)) ⌝ }
+    ensures { λ r. ⌜ (r ≡ 0 → MissedAt (now (file .entry)) at two off on i (i + 4)) ⌝ }
+{
+    let a = hit(file, at, i, two, off, on);
+    let b = hit(file, at, i + 1, two, off, on);
+    let c = hit(file, at, i + 2, two, off, on);
+    let d = hit(file, at, i + 3, two, off, on);
+    a | b | c | d
+}
+
+// Past clauses that miss masks, four at a time.
+fn past_fours(file: &[u8], at: u32, count: u32, i: u32, two: bool, off: u64, on: u64) -> u32
+    requires { ⌜ (i ≤ count) × (at + 16 * count ≤ length (now file)) ⌝ }
+    ensures { λ r. ⌜ (i ≤ r) × (r ≤ count) × MissedAt (now (file .entry)) at two off on i r ⌝ }
+{
+    let mut j = i;
+    while 4 <= count - j {
+        if four_hit(file, at, j, two, off, on) != 0 {
+            return j;
+        }
+        j += 4;
+    }
+    j
+}
+
+// Past clauses that miss masks, up to one that may not.
+pub fn next_hit(file: &[u8], at: u32, count: u32, i: u32, two: bool, off: u64, on: u64) -> u32
+    requires { ⌜ (i ≤ count) × (at + 16 * count ≤ length (now file)) ⌝ }
+    ensures { λ r. ⌜ (i ≤ r) × (r ≤ count) × MissedAt (now (file .entry)) at two off on i r ⌝ }
+{
+    let mut j = past_fours(file, at, count, i, two, off, on);
+    while j < count {
+        if hit(file, at, j, two, off, on) != 0 {
+            return j;
+        }
+        j += 1;
+    }
+    j
 }
 
 // A look at each clause that stands in the file.
 fn pass_words(file: &[u8], at: u32, count: u32, by: Effect, start: Assignment) -> Assignment
     requires { ⌜ at + 16 * count ≤ length (now file) ⌝ }
-    ensures { λ r. ⌜ Passed (Below (ofWords (now (file .entry)) at by) count) start r ⌝ }
+    ensures { λ r. ⌜ Passed true (Below (ofWords (now (file .entry)) at by) count) start r ⌝ }
 {
     let mut x = start;
     let mut i = 0u32;
@@ -250,27 +298,29 @@ fn pass_touched(
     at: u32,
     count: u32,
     by: Effect,
+    two: bool,
     base: Assignment,
     start: Assignment,
 ) -> Assignment
     requires { ⌜ at + 16 * count ≤ length (now file) ⌝ }
-    requires { ⌜ Based (Below (ofWords (now file) at by) count) false base start ⌝ }
-    ensures { λ r. ⌜ Passed (Below (ofWords (now (file .entry)) at by) count) start r ⌝ }
+    requires { ⌜ Based two (Below (ofWords (now file) at by) count) false base start ⌝ }
+    ensures { λ r. ⌜ Passed two (Below (ofWords (now (file .entry)) at by) count) start r ⌝ }
 {
     let mut x = start;
     let mut i = 0u32;
     while i < count {
-        let w = words_in(file, at, i);
-        if !touched(base, x, w) {
-            i += 1;
-            continue;
+        let off = without(x.off, base.off);
+        let on = without(x.on, base.on);
+        let j = next_hit(file, at, count, i, two, off, on);
+        if j == count {
+            return x;
         }
-        let c = pulled(by, w);
+        let c = pulled(by, words_in(file, at, j));
         x = unit(x, c);
         if x.conflict {
             return x;
         }
-        i += 1;
+        i = j + 1;
     }
     x
 }
@@ -286,7 +336,7 @@ fn pass_any(
     by: Effect,
     start: Assignment,
 ) -> Assignment
-    ensures { λ r. ⌜ Passed (Below (ofKind (now (file .entry)) init goal kind at by) (clauseCount kind count)) start r ⌝ }
+    ensures { λ r. ⌜ Passed true (Below (ofKind (now (file .entry)) init goal kind at by) (clauseCount kind count)) start r ⌝ }
 {
     let many = clause_count(kind, count);
     let mut x = start;
@@ -302,12 +352,13 @@ fn pass_any(
     x
 }
 
-// What stays the same while one action is looked at: the task's initial state and goal, how many left leaves there are, and
-// the action.
+// What stays the same while one action is looked at: the task's initial state and goal, how many left leaves there are,
+// whether they are two-literal or Horn, and the action.
 pub struct Case {
     pub init: u64,
     pub goal: u64,
     pub m: usize,
+    pub two: bool,
     pub action: Action,
 }
 
@@ -322,8 +373,8 @@ fn pass_leaf(
     x: Assignment,
 ) -> Assignment
     requires { ⌜ RoomAt (now file) (now leaves) j ⌝ }
-    requires { ⌜ Based (LeafOf (now file) (now leaves) k j) full base x ⌝ }
-    ensures { λ r. ⌜ Passed (LeafOf (now (file .entry)) (now (leaves .entry)) k j) x r ⌝ }
+    requires { ⌜ Based (k .two) (LeafOf (now file) (now leaves) k j) full base x ⌝ }
+    ensures { λ r. ⌜ Passed (k .two) (LeafOf (now (file .entry)) (now (leaves .entry)) k j) x r ⌝ }
 {
     let kind = leaves[4 * j];
     let at = leaves[4 * j + 1];
@@ -335,7 +386,7 @@ fn pass_leaf(
     if full {
         return pass_words(file, at, count, by, x);
     }
-    pass_touched(file, at, count, by, base, x)
+    pass_touched(file, at, count, by, k.two, base, x)
 }
 
 // A look at each clause of the left leaves.
@@ -348,8 +399,8 @@ fn pass(
     start: Assignment,
 ) -> Assignment
     requires { ⌜ Roomy (now file) (now left) (k .m) ⌝ }
-    requires { ⌜ Based (LeftOf (now file) (now left) k) full base start ⌝ }
-    ensures { λ r. ⌜ Passed (LeftOf (now (file .entry)) (now (left .entry)) k) start r ⌝ }
+    requires { ⌜ Based (k .two) (LeftOf (now file) (now left) k) full base start ⌝ }
+    ensures { λ r. ⌜ Passed (k .two) (LeftOf (now (file .entry)) (now (left .entry)) k) start r ⌝ }
 {
     let m = k.m;
     let mut x = start;
@@ -364,14 +415,14 @@ fn pass(
     x
 }
 
-// Whether two assignments say the same.
-pub fn alike(x: Assignment, y: Assignment) -> bool
-    ensures { λ r. ⌜ Tells r (Alike x y) ⌝ }
+// Whether two assignments say the same. For Horn clauses what is on decides: what came to be off needs no look of its own.
+pub fn alike(two: bool, x: Assignment, y: Assignment) -> bool
+    ensures { λ r. ⌜ Tells r (Alike two x y) ⌝ }
 {
-    (x.on == y.on) & (x.off == y.off)
+    (x.on == y.on) & (!two | (x.off == y.off))
 }
 
-// Looks until nothing changes, or up to a conflict. What starts from a settled base needs no full look.
+// Looks until nothing changes, or up to a conflict. Only the first look may be a full one: each later one rests on the one before it.
 pub fn solve(
     file: &[u8],
     left: &[u32],
@@ -381,18 +432,22 @@ pub fn solve(
     start: Assignment,
 ) -> Assignment
     requires { ⌜ Roomy (now file) (now left) (k .m) ⌝ }
-    requires { ⌜ Based (LeftOf (now file) (now left) k) full base start ⌝ }
-    ensures { λ r. ⌜ Solved (LeftOf (now (file .entry)) (now (left .entry)) k) start r ⌝ }
+    requires { ⌜ Based (k .two) (LeftOf (now file) (now left) k) full base start ⌝ }
+    ensures { λ r. ⌜ Solved (k .two) (LeftOf (now (file .entry)) (now (left .entry)) k) start r ⌝ }
 {
     let mut x = start;
+    let mut from = base;
+    let mut all = full;
     loop {
-        let y = pass(file, left, k, full, base, x);
+        let y = pass(file, left, k, all, from, x);
         if y.conflict {
             return y;
         }
-        if alike(x, y) {
+        if alike(k.two, x, y) {
             return y;
         }
+        from = x;
+        all = false;
         x = y;
     }
 }

@@ -5,7 +5,7 @@ use reference::draft::{sample, step, Draft, DraftActions, DraftSet};
 use reference::generate::growth;
 use reference::generate::limits::{many_action_sets, many_state_sets, workload};
 use reference::generate::random::Random;
-use reference::generate::worst::{no_model, two_right_leaves, Left};
+use reference::generate::worst::{no_model, two_right_leaves, Left, Order};
 use reference::layout::MAX_STATE_SETS;
 use reference::shape::Method;
 use reference::{Answer, Reply};
@@ -55,23 +55,38 @@ pub const ACTIONS: usize = 32;
 pub fn worst_cases() -> Vec<Timed> {
     let mut all = Vec::new();
     for complements in [0, 6] {
-        let left = Left { written: 8, complements };
-        let leaves = match complements {
-            0 => "8 left leaves".into(),
-            _ => format!("8 left leaves, {complements} complements right"),
-        };
-        for (kind, method) in [("Horn", Method::Horn), ("two-literal", Method::TwoCnf)] {
-            let draft = two_right_leaves(method, left, [RIGHT_CLAUSES, 256]);
-            let scaled = format!("{RIGHT_CLAUSES} of 256 clauses in the first right leaf");
-            let name = format!("{kind}, {leaves}, 2 right leaves");
-            all.push(Timed { scaled, ..Timed::accepted(name, &draft) });
+        for order in Order::ALL {
+            all.extend(dearest(Left { written: 8, complements }, order));
         }
-        let (scaled, draft) = (format!("{ACTIONS} of 256 actions"), no_model(left, ACTIONS));
-        let name = format!("two-literal satisfiability, {leaves}");
-        all.push(Timed { scaled, ..Timed::accepted(name, &draft) });
     }
     all.extend(doubling());
     all
+}
+
+/// A statement of each class over these left leaves.
+fn dearest(left: Left, order: Order) -> [Timed; 3] {
+    let leaves = match left.complements {
+        0 => "8 left leaves".into(),
+        complements => format!("8 left leaves, {complements} complements right"),
+    };
+    let chain = match order {
+        Order::LastLeaf => "",
+        Order::Backwards => ", chain backwards over the leaves",
+        Order::Ends => ", chain at both ends",
+    };
+    let two = |kind: &str, method| {
+        let scaled = format!("{RIGHT_CLAUSES} of 256 clauses in the first right leaf");
+        let draft = two_right_leaves(method, left, order, [RIGHT_CLAUSES, 256]);
+        Timed { scaled, ..Timed::accepted(format!("{kind}, {leaves}, 2 right leaves{chain}"), &draft) }
+    };
+    let search = Timed {
+        scaled: format!("{ACTIONS} of 256 actions"),
+        ..Timed::accepted(
+            format!("two-literal satisfiability, {leaves}{chain}"),
+            &no_model(left, order, ACTIONS),
+        )
+    };
+    [two("Horn", Method::Horn), two("two-literal", Method::TwoCnf), search]
 }
 
 fn doubling() -> [Timed; 2] {

@@ -63,11 +63,14 @@ fn workloads_are_as_large_as_they_say() {
 #[test]
 fn worst_cases_are_as_large_as_they_say() {
     let files: Vec<File> = worst_cases().iter().map(read).collect();
-    let clauses: Vec<usize> = files[..6].iter().map(|file| file.clauses.len()).collect();
     let right = RIGHT_CLAUSES + 256;
-    assert_eq!(clauses, [2048 + right, 2048 + right, 2048, 3584 + right, 3584 + right, 3584]);
-    assert_eq!((files[2].task.actions.len(), files[5].task.actions.len()), (ACTIONS, ACTIONS));
-    assert_eq!((files[6].action_sets.len(), files[7].state_sets.len()), (256, 512));
+    // Three orders of the chain for 8 leaves, then three for 14.
+    for (three, left) in files.chunks(3).zip([2048, 2048, 2048, 3584, 3584, 3584]) {
+        let clauses: Vec<usize> = three.iter().map(|file| file.clauses.len()).collect();
+        assert_eq!(clauses, [left + right, left + right, left]);
+        assert_eq!(three[2].task.actions.len(), ACTIONS);
+    }
+    assert_eq!((files[18].action_sets.len(), files[19].state_sets.len()), (256, 512));
 }
 
 #[test]

@@ -1,7 +1,7 @@
 //! The dearest statements over clauses that fit into a file, as docs/DECISIONS.md counts
-//! them. Most left clauses stay open at every look. The others are a chain, written from
-//! its end to its beginning, so that each look at all clauses settles one fact; the
-//! contradiction stands at the chain's end. All files are accepted.
+//! them. Most left clauses stay open at every look. The others are the links of a chain, in an
+//! order in which each look at all clauses settles one fact or two; the contradiction stands at
+//! the chain's end. All files are accepted.
 
 use crate::draft::{sample, step, Draft, DraftSet};
 use crate::file::Clause;
@@ -17,16 +17,48 @@ pub struct Left {
     pub complements: usize,
 }
 
+/// Where the links of the chain stand among the left clauses.
+#[derive(Clone, Copy, Debug, PartialEq, Eq)]
+pub enum Order {
+    /// All in the last leaf, from the chain's end to its beginning.
+    LastLeaf,
+    /// Dealt out to the leaves from the last to the first, again and again, in each leaf from its
+    /// end on: a look at one leaf until nothing changes there settles one fact too.
+    Backwards,
+    /// By turns at the end of the last leaf and at the beginning of the first: a look from the
+    /// last clause to the first settles no more than one from the first to the last.
+    Ends,
+}
+
+impl Order {
+    pub const ALL: [Order; 3] = [Order::LastLeaf, Order::Backwards, Order::Ends];
+
+    /// The place of a link among those of so many leaves, of which the last few are taken.
+    fn place(self, link: usize, leaves: usize, taken: usize) -> usize {
+        let free = leaves * MAX_CLAUSES - taken;
+        match self {
+            Order::LastLeaf => free - 1 - link,
+            Order::Backwards => {
+                let (round, leaf) = (link / leaves, leaves - 1 - link % leaves);
+                ((leaf + 1) * MAX_CLAUSES).min(free) - 1 - round
+            }
+            Order::Ends if link % 2 == 0 => free - 1 - link / 2,
+            Order::Ends => link / 2,
+        }
+    }
+}
+
 /// B1: the left leaves within the union of two right ones with so many clauses. For each
 /// clause of the first and each of the second the whole chain is gone through, until it
 /// ends in a contradiction.
-pub fn two_right_leaves(method: Method, left: Left, right: [usize; 2]) -> Draft {
+pub fn two_right_leaves(method: Method, left: Left, order: Order, right: [usize; 2]) -> Draft {
     let mut d = base(0);
     // Facts 0 to 59 are the chain; when its last is on, so is fact 60, and it is not.
     let (end, torn, spare) = (59, 60, 61);
-    let mut chain: Vec<Clause> = (0..end).rev().map(|f| clause(&[f + 1], &[f])).collect();
-    chain.extend([clause(&[torn], &[end]), clause(&[], &[torn, end])]);
-    let (inside, mut others) = left_entries(&mut d, method, left, &chain);
+    let links: Vec<Clause> = (0..end).map(|f| clause(&[f + 1], &[f])).collect();
+    let closing = [clause(&[torn], &[end]), clause(&[], &[torn, end])];
+    let clauses = left_clauses(left, order, &links, &closing);
+    let (inside, mut others) = left_entries(&mut d, method, left, &clauses);
     // The first leaf fails where the spare fact is on, the second where the chain begins.
     for (count, fact) in right.into_iter().zip([spare, 0]) {
         others.push(add(&mut d, set(method, vec![clause(&[], &[fact]); count])));
@@ -39,13 +71,14 @@ pub fn two_right_leaves(method: Method, left: Left, right: [usize; 2]) -> Draft 
 /// B2: the left leaves, two-literal and without a model, in the bracket of so many actions,
 /// within the empty set. For each action each fact is tried off, and the chain from it to
 /// the contradiction gone through.
-pub fn no_model(left: Left, actions: usize) -> Draft {
+pub fn no_model(left: Left, order: Order, actions: usize) -> Draft {
     let mut d = base(actions);
     // A fact that is off puts off the next one; 62 and 63, the open clauses' facts, fit in no way.
     let (last, other) = (62, 63);
-    let mut chain: Vec<Clause> = (0..last).rev().map(|f| clause(&[f], &[f + 1])).collect();
-    chain.extend([clause(&[last, other], &[]), clause(&[last], &[other]), clause(&[other], &[last])]);
-    let (inside, mut others) = left_entries(&mut d, Method::TwoCnf, left, &chain);
+    let links: Vec<Clause> = (0..last).map(|f| clause(&[f], &[f + 1])).collect();
+    let closing = [clause(&[last, other], &[]), clause(&[last], &[other]), clause(&[other], &[last])];
+    let clauses = left_clauses(left, order, &links, &closing);
+    let (inside, mut others) = left_entries(&mut d, Method::TwoCnf, left, &clauses);
     let led = add(&mut d, DraftSet::Progression(inside, 0));
     others.push(0);
     let right = tree(&mut d, &others, DraftSet::Union);
@@ -61,18 +94,23 @@ fn base(actions: usize) -> Draft {
     d
 }
 
-/// Adds the left leaves, the chain at the end of the last one: the intersection of those
-/// written on the left, and the complements.
-fn left_entries(d: &mut Draft, method: Method, left: Left, chain: &[Clause]) -> (u16, Vec<u16>) {
-    let open = clause(&[], &[62, 63]);
-    let mut leaves = Vec::new();
-    for k in 1..=left.written + left.complements {
-        let mut clauses = vec![open; MAX_CLAUSES];
-        if k == left.written + left.complements {
-            clauses[MAX_CLAUSES - chain.len()..].copy_from_slice(chain);
-        }
-        leaves.push(add(d, set(method, clauses)));
+/// The clauses of all left leaves: the closing ones last, the links in this order, and clauses
+/// that stay open everywhere else.
+fn left_clauses(left: Left, order: Order, links: &[Clause], closing: &[Clause]) -> Vec<Clause> {
+    let leaves = left.written + left.complements;
+    let mut clauses = vec![clause(&[], &[62, 63]); leaves * MAX_CLAUSES];
+    let free = clauses.len() - closing.len();
+    clauses[free..].copy_from_slice(closing);
+    for (link, clause) in links.iter().enumerate() {
+        clauses[order.place(link, leaves, closing.len())] = *clause;
     }
+    clauses
+}
+
+/// Adds the left leaves: the intersection of those written on the left, and the complements.
+fn left_entries(d: &mut Draft, method: Method, left: Left, clauses: &[Clause]) -> (u16, Vec<u16>) {
+    let leaves = clauses.chunks(MAX_CLAUSES).map(|leaf| add(d, set(method, leaf.to_vec())));
+    let mut leaves: Vec<u16> = leaves.collect();
     let moved = leaves.split_off(left.written);
     let inside = tree(d, &leaves, DraftSet::Intersection);
     (inside, moved.into_iter().map(|leaf| add(d, DraftSet::Complement(leaf))).collect())

@@ -12,10 +12,10 @@ Inv-loop left m kind at count j₀ j = j ≤ m
 abbrev μ-loop : tie.MeasureT-loop
 μ-loop left m kind at count j₀ j = m - j
 
-returns : tie.Need-returns Inv-loop μ-loop
-returns c =
-    let a = c .before .before .before .before .before .before .before .args in
-    λ t. before-at (a .left .now) (a .m) (a .kind) (a .at) (a .count) (c .before .before .before .before .before .before .loop .j) (search needs) (c .if1 .taken)
+returns-2 : tie.Need-returns-2 Inv-loop μ-loop
+returns-2 c =
+    let a = c .before .before .before .before .before .before .before .before .args in
+    λ t. (search needs, before-at (a .left .now) (a .m) (a .kind) (a .at) (a .count) (c .before .before .before .before .before .before .loop .j) (search needs) (c .if2 .taken))
 
 pub is-before-spec : {M : Type 1} → statement M
 is-before-spec =
@@ -23,6 +23,7 @@ is-before-spec =
     (tie.spec
     Inv-loop
     μ-loop
+    (λ c t. absurd t)
     (λ c. search needs)
     (λ c. search needs)
     (λ c. search needs)
@@ -36,7 +37,7 @@ is-before-spec =
     (λ c. search needs)
     (λ c. search needs)
     (λ c. search needs)
-    returns
+    returns-2
     (λ c. search needs)
     (λ c. search needs)
     (λ c. search needs)

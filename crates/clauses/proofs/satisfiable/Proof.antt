@@ -1,7 +1,6 @@
 -- `clauses::satisfiable` meets its contract.
 -- Assumes nothing.
 use Prim.Native.Nat.{_≤_, _<_, _-_, _^_}
-use mathlib.Core.Bool.{true}
 use borrow.Author.Needs.{needs}
 use Rattle.clauses.proofs.SeekLaws.{Trying, trying-none, trying-more, trying-done, trying-none-left, usable-shaped}
 use Rattle.propagation.specs.Propagation.{LeftOf}
@@ -9,30 +8,30 @@ use Rattle.clauses.proofs.satisfiable.Statement.{statement}
 use Rattle.clauses.proofs.satisfiable.Tie as tie
 
 abbrev Inv-loop : tie.InvT-loop
-Inv-loop file left k x₀ i₀ x i = (i ≤ 64) × (x .on < 2 ^ 64) × Trying (LeftOf file left k) i x₀ x
+Inv-loop file left k x₀ i₀ x i = (i ≤ 64) × (x .on < 2 ^ 64) × Trying (k .two) (LeftOf file left k) i x₀ x
 
 abbrev μ-loop : tie.MeasureT-loop
 μ-loop file left k x₀ i₀ x i = 64 - i
 
 loop-holds : tie.Need-loop-holds Inv-loop μ-loop
-loop-holds c = (search needs, search needs, trying-none _ _ (c .before .before .pre .1 .0) (c .before .before .pre .1 .1))
+loop-holds c = (search needs, search needs, trying-none _ _ _ (c .before .before .pre .1 .0) (c .before .before .pre .1 .1))
 
 decide-requires : tie.Need-decide-requires Inv-loop μ-loop
-decide-requires c κs = (search needs, c .before .before .before .before .pre .0 .room, c .before .loop .inv .2 .settled)
+decide-requires c κs = (search needs, c .before .before .before .before .pre .0 .1 .room, c .before .loop .inv .2 .settled)
 
 returns : tie.Need-returns Inv-loop μ-loop
 returns c =
     let s = c .before .before .before .before .before .before in
     record {
       finds = λ e. absurd e;
-      sees = trying-none-left _ (usable-shaped _ _ _ _ _ _ true (s .pre .0)) (c .before .before .before .loop .inv .2) (c .before .before .before .loop .inv .1) (c .before .decide .ensures) (c .if1 .taken);
+      sees = trying-none-left _ _ (s .pre .0 .0) (usable-shaped _ _ _ _ _ _ _ (s .pre .0 .1)) (c .before .before .before .loop .inv .2) (c .before .before .before .loop .inv .1) (c .before .decide .ensures) (c .if1 .taken);
     }
 
 loop-again : tie.Need-loop-again Inv-loop μ-loop
-loop-again c = (search needs, search needs, trying-more _ (c .before .before .before .loop .inv .2) (c .before .decide .ensures) (c .if1 .left))
+loop-again c = (search needs, search needs, trying-more _ _ (c .before .before .before .loop .inv .2) (c .before .decide .ensures) (c .if1 .left))
 
 returns-2 : tie.Need-returns-2 Inv-loop μ-loop
-returns-2 c = record { finds = λ e. trying-done _ (search needs) (c .before .loop .inv .2) (c .before .loop .inv .1); sees = λ m. tt }
+returns-2 c = record { finds = λ e. trying-done _ _ (c .before .before .before .before .pre .0 .0) (search needs) (c .before .loop .inv .2) (c .before .loop .inv .1); sees = λ m. tt }
 
 pub satisfiable-spec : {M : Type 1} → statement M
 satisfiable-spec =

@@ -12,7 +12,7 @@ use Rattle.propagation.proofs.pass.Statement.{statement}
 use Rattle.propagation.proofs.pass.Tie as tie
 
 abbrev Inv-loop : tie.InvT-loop
-Inv-loop file left k full base m x₀ j₀ x j = (j ≤ m) × Passed (Below (LeafOf file left k) j) x₀ x
+Inv-loop file left k full base m x₀ j₀ x j = (j ≤ m) × Passed (k .two) (Below (LeafOf file left k) j) x₀ x
 
 abbrev μ-loop : tie.MeasureT-loop
 μ-loop file left k full base m x₀ j₀ x j = m - j

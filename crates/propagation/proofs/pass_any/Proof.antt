@@ -3,6 +3,7 @@
 use borrow.Author.Needs.{needs}
 use Rattle.propagation.proofs.CodeLaws.{count-low}
 use mathlib.Core.Path.{_≡_, _∙_}
+use mathlib.Core.Bool.{true}
 use Rattle.propagation.proofs.PassLaws.{passed-none, passed-more, passed-early}
 use Rattle.propagation.specs.Propagation.{ofKind, Below, Passed}
 use native.Mathlib.Omega.{arith}
@@ -11,7 +12,7 @@ use Rattle.propagation.proofs.pass_any.Statement.{statement}
 use Rattle.propagation.proofs.pass_any.Tie as tie
 
 abbrev Inv-loop : tie.InvT-loop
-Inv-loop file init goal kind at count by many x₀ i₀ x i = (i ≤ many) × Passed (Below (ofKind file init goal kind at by) i) x₀ x
+Inv-loop file init goal kind at count by many x₀ i₀ x i = (i ≤ many) × Passed true (Below (ofKind file init goal kind at by) i) x₀ x
 
 abbrev μ-loop : tie.MeasureT-loop
 μ-loop file init goal kind at count by many x₀ i₀ x i = many - i

@@ -1,7 +1,7 @@
 -- `propagation::pass_leaf` meets its contract.
 -- Assumes nothing.
 use Rattle.propagation.proofs.LeafLaws.{passed-kind, passed-words, words-leaf}
-use Rattle.propagation.proofs.PassLaws.{going-none}
+use Rattle.propagation.proofs.PassLaws.{going-none, passed-any}
 use Rattle.propagation.proofs.RestLaws.{based-on}
 use borrow.Author.Needs.{needs}
 use Rattle.propagation.proofs.pass_leaf.Statement.{statement}
@@ -10,7 +10,7 @@ use Rattle.propagation.proofs.pass_leaf.Tie as tie
 returns : tie.Need-returns
 returns c =
     let a = c .before .before .before .before .before .before .before .before .before .args in
-    passed-kind (a .file .now) (a .k .init) (a .k .goal) (a .k .action) (a .leaves .now) (a .j) (rw (c .before .before .effect-of .ensures) at (c .pass-any .ensures))
+    passed-kind (a .file .now) (a .k .init) (a .k .goal) (a .k .action) (a .leaves .now) (a .j) (passed-any _ (rw (c .before .before .effect-of .ensures) at (c .pass-any .ensures)))
 
 pass-words-requires : tie.Need-pass-words-requires
 pass-words-requires c κs =
@@ -20,7 +20,7 @@ pass-words-requires c κs =
 returns-2 : tie.Need-returns-2
 returns-2 c =
     let a = c .before .before .before .before .before .before .before .before .before .before .args in
-    passed-words (a .file .now) (a .k .init) (a .k .goal) (a .k .action) (a .leaves .now) (a .j) (search needs) (rw (c .before .before .before .effect-of .ensures) at (c .pass-words .ensures))
+    passed-words (a .file .now) (a .k .init) (a .k .goal) (a .k .action) (a .leaves .now) (a .j) (search needs) (passed-any _ (rw (c .before .before .before .effect-of .ensures) at (c .pass-words .ensures)))
 
 pass-touched-requires : tie.Need-pass-touched-requires
 pass-touched-requires c κs =

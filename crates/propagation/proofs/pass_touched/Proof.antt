@@ -1,10 +1,9 @@
 -- `propagation::pass_touched` meets its contract.
 -- Assumes nothing.
 use borrow.Author.Needs.{needs}
-use borrow.Author.Tests.{not-true}
-use mathlib.Core.Path.{_≡_, refl}
-use Rattle.propagation.proofs.PassLaws.{passed-none, passed-more, passed-early}
-use Rattle.propagation.proofs.RestLaws.{passed-rest, based-on}
+use mathlib.Core.Path.{_≡_}
+use Rattle.propagation.proofs.PassLaws.{passed-none, passed-any, passed-more, passed-early}
+use Rattle.propagation.proofs.RestLaws.{passed-missed}
 use Rattle.propagation.specs.Propagation.{ofWords, Below, Passed}
 use native.Mathlib.Omega.{arith}
 use Prim.Native.Nat.{_≤_, _-_}
@@ -12,40 +11,46 @@ use Rattle.propagation.proofs.pass_touched.Statement.{statement}
 use Rattle.propagation.proofs.pass_touched.Tie as tie
 
 abbrev Inv-loop : tie.InvT-loop
-Inv-loop file at count by base x₀ i₀ x i = (i ≤ count) × Passed (Below (ofWords file at by) i) x₀ x
+Inv-loop file at count by two base x₀ i₀ x i = (i ≤ count) × Passed two (Below (ofWords file at by) i) x₀ x
 
 abbrev μ-loop : tie.MeasureT-loop
-μ-loop file at count by base x₀ i₀ x i = count - i
+μ-loop file at count by two base x₀ i₀ x i = count - i
 
 loop-holds : tie.Need-loop-holds Inv-loop μ-loop
 loop-holds c = (search needs, passed-none _ _)
 
--- the clause is as settled as in the base
-loop-again : tie.Need-loop-again Inv-loop μ-loop
-loop-again c =
-    let s = c .before .before .before .before .before .before in
-    let a = s .args in
-    let v = c .before .before .before .before .loop in
-    let r = based-on {Q = ofWords (a .file .now) (a .at) (a .by) (v .i)} (λ d q. (v .i, search needs, q)) (s .pre .1) (v .inv .1 .goes) refl in (
-      search needs,
-      passed-more (ofWords _ _ _) _ (v .inv .1)
-          (passed-rest (a .by) (a .base) _ _ (r .1) (rw (c .before .before .words-in .ensures) at (c .before .touched .ensures (not-true _ (c .if1 .taken)))) (r .0)),
-    )
-
 returns : tie.Need-returns Inv-loop μ-loop
 returns c =
-    passed-early (ofWords _ _ _) _ _ (search needs) (c .if2 .taken) (c .before .before .before .before .before .before .before .loop .inv .1)
-    (rw (c .before .before .pulled .ensures, c .before .before .before .before .before .words-in .ensures) at (c .before .unit .ensures))
-
-loop-again-2 : tie.Need-loop-again-2 Inv-loop μ-loop
-loop-again-2 c = (
-  search needs,
-  passed-more (ofWords _ _ _) _ (c .before .before .before .before .before .before .before .loop .inv .1)
-      (rw (c .before .before .pulled .ensures, c .before .before .before .before .before .words-in .ensures) at (c .before .unit .ensures)),
-)
+    let s = c .before .before .before .before .before .before .before in
+    let a = s .args in
+    let v = c .before .before .before .before .before .loop in
+    let n = c .before .next-hit in
+    rw (c .if1 .taken) at (passed-missed (a .file .now) (a .at) (a .count) (a .by) (a .base) _ _ (v .i) (n .result) _ _ (s .pre .1) (n .ensures .0) (n .ensures .1) (c .before .before .before .without .ensures) (c .before .before .without2 .ensures) (n .ensures .2) (v .inv .1))
 
 returns-2 : tie.Need-returns-2 Inv-loop μ-loop
 returns-2 c =
+    let s = c .before .before .before .before .before .before .before .before .before .before .before in
+    let a = s .args in
+    let v = c .before .before .before .before .before .before .before .before .before .loop in
+    let n = c .before .before .before .before .before .next-hit in
+    passed-early (ofWords _ _ _) _ _ (search needs) (c .if2 .taken)
+    (passed-missed (a .file .now) (a .at) (a .count) (a .by) (a .base) _ _ (v .i) (n .result) _ _ (s .pre .1) (n .ensures .0) (n .ensures .1) (c .before .before .before .before .before .before .before .without .ensures) (c .before .before .before .before .before .before .without2 .ensures) (n .ensures .2) (v .inv .1))
+    (passed-any _ (rw (c .before .before .pulled .ensures, c .before .before .before .words-in .ensures) at (c .before .unit .ensures)))
+
+loop-again : tie.Need-loop-again Inv-loop μ-loop
+loop-again c =
+    let s = c .before .before .before .before .before .before .before .before .before .before .before in
+    let a = s .args in
+    let v = c .before .before .before .before .before .before .before .before .before .loop in
+    let n = c .before .before .before .before .before .next-hit in (
+      search needs,
+      passed-more (ofWords _ _ _) _
+          (passed-missed (a .file .now) (a .at) (a .count) (a .by) (a .base) _ _ (v .i) (n .result) _ _ (s .pre .1) (n .ensures .0) (n .ensures .1) (c .before .before .before .before .before .before .before .without .ensures) (c .before .before .before .before .before .before .without2 .ensures) (n .ensures .2) (v .inv .1))
+          (passed-any _ (rw (c .before .before .pulled .ensures, c .before .before .before .words-in .ensures) at (c .before .unit .ensures))),
+    )
+
+returns-3 : tie.Need-returns-3 Inv-loop μ-loop
+returns-3 c =
     let e : c .before .loop .i ≡ c .before .before .before .args .count = omega arith in
     rw e at (c .before .loop .inv .1)
 
@@ -58,13 +63,13 @@ pass-touched-spec =
     loop-holds
     (λ c κs. search needs)
     (λ c κs. search needs)
+    (λ c κs. search needs)
+    returns
+    (λ c κs. search needs)
+    (λ c κs. search needs)
+    (λ c κs. search needs)
+    returns-2
     (λ c. search needs)
     (λ c. search needs)
     loop-again
-    (λ c κs. search needs)
-    (λ c κs. search needs)
-    returns
-    (λ c. search needs)
-    (λ c. search needs)
-    loop-again-2
-    returns-2)
+    returns-3)

@@ -2,6 +2,7 @@
 -- Assumes nothing.
 use borrow.Author.Needs.{needs}
 use mathlib.Core.Path.{_≡_}
+use mathlib.Core.Bool.{true}
 use Rattle.propagation.proofs.PassLaws.{passed-none, passed-more, passed-early}
 use Rattle.propagation.specs.Propagation.{ofWords, Below, Passed}
 use native.Mathlib.Omega.{arith}
@@ -10,7 +11,7 @@ use Rattle.propagation.proofs.pass_words.Statement.{statement}
 use Rattle.propagation.proofs.pass_words.Tie as tie
 
 abbrev Inv-loop : tie.InvT-loop
-Inv-loop file at count by x₀ i₀ x i = (i ≤ count) × Passed (Below (ofWords file at by) i) x₀ x
+Inv-loop file at count by x₀ i₀ x i = (i ≤ count) × Passed true (Below (ofWords file at by) i) x₀ x
 
 abbrev μ-loop : tie.MeasureT-loop
 μ-loop file at count by x₀ i₀ x i = count - i

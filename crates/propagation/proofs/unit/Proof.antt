@@ -14,13 +14,13 @@ returns-2 : tie.Need-returns-2
 returns-2 c = conflicting (c .before .before .before .before .before .args .x) (c .before .before .before .before .before .args .c) (c .before .before .before .without .result) (c .before .before .without2 .result) (search needs) (search needs) (c .before .before .before .without .ensures) (c .before .before .without2 .ensures) (c .if3 .taken) (c .before .if2 .taken)
 
 returns-3 : tie.Need-returns-3
-returns-3 c = forces (c .before .before .before .before .before .before .args .x) (c .before .before .before .before .before .before .args .c) (c .before .before .before .before .without .result) (c .before .before .before .without2 .result) (search needs) (search needs) (c .before .before .before .before .without .ensures) (c .before .before .before .without2 .ensures) true (c .before .before .if2 .taken) (c .before .if3 .left) (c .if4 .taken) (c .before .before .before .before .before .if1 .left)
+returns-3 c = forces (c .before .before .before .before .before .before .args .x) (c .before .before .before .before .before .before .args .c) (c .before .before .before .before .without .result) (c .before .before .before .without2 .result) (search needs) (search needs) (c .before .before .before .before .without .ensures) (c .before .before .before .without2 .ensures) true (c .before .before .if2 .taken) (c .before .if3 .left) (c .if4 .taken)
 
 returns-4 : tie.Need-returns-4
 returns-4 c = stays-wide (c .before .before .before .before .before .before .args .x) (c .before .before .before .before .before .before .args .c) (c .before .before .before .before .without .result) (c .before .before .before .without2 .result) (search needs) (search needs) (c .before .before .before .before .without .ensures) (c .before .before .before .without2 .ensures) true (c .before .if3 .left) (c .if4 .left)
 
 returns-5 : tie.Need-returns-5
-returns-5 c = forces (c .before .before .before .before .before .before .args .x) (c .before .before .before .before .before .before .args .c) (c .before .before .before .before .without .result) (c .before .before .before .without2 .result) (search needs) (search needs) (c .before .before .before .before .without .ensures) (c .before .before .before .without2 .ensures) false (c .before .if5 .taken) (c .before .before .if2 .left) (c .if6 .taken) (c .before .before .before .before .before .if1 .left)
+returns-5 c = forces (c .before .before .before .before .before .before .args .x) (c .before .before .before .before .before .before .args .c) (c .before .before .before .before .without .result) (c .before .before .before .without2 .result) (search needs) (search needs) (c .before .before .before .before .without .ensures) (c .before .before .before .without2 .ensures) false (c .before .if5 .taken) (c .before .before .if2 .left) (c .if6 .taken)
 
 returns-6 : tie.Need-returns-6
 returns-6 c = stays-wide (c .before .before .before .before .before .before .args .x) (c .before .before .before .before .before .before .args .c) (c .before .before .before .before .without .result) (c .before .before .before .without2 .result) (search needs) (search needs) (c .before .before .before .before .without .ensures) (c .before .before .before .without2 .ensures) false (c .before .before .if2 .left) (c .if6 .left)

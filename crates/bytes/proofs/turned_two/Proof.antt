@@ -1,0 +1,13 @@
+-- `bytes::turned_two` meets its contract.
+-- Assumes nothing.
+use borrow.Author.Needs.{needs}
+use Rattle.bytes.specs.Numbers.{turned2}
+use Rattle.bytes.proofs.turned_two.Statement.{statement}
+use Rattle.bytes.proofs.turned_two.Tie as tie
+
+returns : tie.Need-returns
+unfolding turned2
+returns c = search needs
+
+pub turned-two-spec : {M : Type 1} → statement M
+turned-two-spec = tie.close (tie.spec (λ c. search needs) (λ c. search needs) returns)

@@ -1,0 +1,30 @@
+-- `bytes::u64_turned` meets its contract.
+-- Assumes nothing.
+use borrow.Author.Needs.{needs}
+use native.Mathlib.Omega.{arith}
+use mathlib.Core.Path.{_∙_}
+use Rattle.bytes.proofs.ByteLaws.{number-cat}
+use Rattle.bytes.proofs.TurnLaws.{turn-eight}
+use Rattle.bytes.proofs.u64_turned.Statement.{statement}
+use Rattle.bytes.proofs.u64_turned.Tie as tie
+
+returns : tie.Need-returns
+returns c =
+    let a = c .before .before .before .args in
+    let e = number-cat 4 4 (a .file .now) (a .at) (search needs) in
+    let u = c .before .u32-turned .ensures in
+    let v = c .u32-turned2 .ensures in
+    (omega (arith, e, u .0, v .0), omega (arith, u .1, v .1, turn-eight _ _ _ (v .0) e))
+
+pub u64-turned-spec : {M : Type 1} → statement M
+u64-turned-spec =
+    tie.close
+    (tie.spec
+    (λ c κs. search needs)
+    (λ c. search needs)
+    (λ c κs. search needs)
+    (λ c. search needs)
+    (λ c. search needs)
+    (λ c. search needs)
+    (λ c. search needs)
+    returns)

@@ -1,0 +1,18 @@
+-- `clauses::next_open` meets its contract.
+-- Assumes nothing.
+use borrow.Author.Needs.{needs}
+use native.Mathlib.Omega.{arith}
+use Rattle.clauses.proofs.next_open.Statement.{statement}
+use Rattle.clauses.proofs.next_open.Tie as tie
+
+next-hit-requires : tie.Need-next-hit-requires
+next-hit-requires c κs = let s = c .before .before in (s .pre .0, s .pre .1 (c .if1 .taken))
+
+returns : tie.Need-returns
+returns c = let h = c .next-hit .ensures in (h .0, h .1, λ j l m. (c .before .if1 .taken, h .2 j l m))
+
+returns-2 : tie.Need-returns-2
+returns-2 c = (search needs, search needs, λ j l m. absurd (omega arith))
+
+pub next-open-spec : {M : Type 1} → statement M
+next-open-spec = tie.close (tie.spec next-hit-requires returns returns-2)

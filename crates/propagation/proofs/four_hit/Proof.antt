@@ -1,0 +1,25 @@
+-- `propagation::four_hit` meets its contract.
+-- Assumes nothing.
+use borrow.Author.Needs.{needs}
+use Rattle.propagation.proofs.RestLaws.{four-zero}
+use Rattle.propagation.specs.Propagation.{Misses, wordsAt}
+use Rattle.propagation.proofs.four_hit.Statement.{statement}
+use Rattle.propagation.proofs.four_hit.Tie as tie
+
+returns : tie.Need-returns
+returns c =
+    let a = c .before .before .before .before .before .args in
+    four-zero (λ j. Misses (a .two) (a .off) (a .on) (wordsAt (a .file .now) (a .at) j)) (a .i) _ _ _ _ (c .before .before .before .hit .ensures) (c .before .before .hit2 .ensures) (c .before .hit3 .ensures) (c .hit4 .ensures)
+
+pub four-hit-spec : {M : Type 1} → statement M
+four-hit-spec =
+    tie.close
+    (tie.spec
+    (λ c κs. search needs)
+    (λ c. search needs)
+    (λ c κs. search needs)
+    (λ c. search needs)
+    (λ c κs. search needs)
+    (λ c. search needs)
+    (λ c κs. search needs)
+    returns)
