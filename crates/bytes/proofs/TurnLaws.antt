@@ -1,6 +1,7 @@
 -- Numbers whose bytes are turned: two have a bit in common where they had one before.
 -- Assumes nothing.
 use mathlib.Core.Path.{_≡_, sym, ap₂, _∙_}
+use mathlib.Core.Logic.{_↔_}
 use Prim.Native.Nat.{ℕ, _+_, _*_, _/_, _%_, _<_, _^_}
 use native.Mathlib.Omega.{arith}
 use native.Mathlib.Nat.{mod-lt}
@@ -9,15 +10,18 @@ use lib.Pow.{pow-pos, split}
 use Rattle.bytes.specs.Numbers.{turned2, turned4, turned8}
 
 -- two halves of k bits change places, and T is done to each
-module _ (k : ℕ) (T : ℕ → ℕ) (room : (z : ℕ) → z < 2 ^ k → T z < 2 ^ k) (clear : (x y : ℕ) → x < 2 ^ k → y < 2 ^ k → bitAnd (T x) (T y) ≡ 0 → bitAnd x y ≡ 0)
+module _ (k : ℕ) (T : ℕ → ℕ) (room : (z : ℕ) → z < 2 ^ k → T z < 2 ^ k) (clear : (x y : ℕ) → x < 2 ^ k → y < 2 ^ k → (bitAnd (T x) (T y) ≡ 0) ↔ (bitAnd x y ≡ 0))
     (none : (a b : ℕ) → a * 2 ^ k + b ≡ 0 → (a ≡ 0) × (b ≡ 0)) (zero : 0 * 2 ^ k + 0 ≡ 0) where
-  halves-clear : (x y : ℕ) → x / 2 ^ k < 2 ^ k → y / 2 ^ k < 2 ^ k → bitAnd (T (x % 2 ^ k) * 2 ^ k + T (x / 2 ^ k)) (T (y % 2 ^ k) * 2 ^ k + T (y / 2 ^ k)) ≡ 0 → bitAnd x y ≡ 0
-  halves-clear x y hx hy e =
-      let z = none _ _ (sym (and-block k (T (x % 2 ^ k)) (T (y % 2 ^ k)) (T (x / 2 ^ k)) (T (y / 2 ^ k)) (room _ hx) (room _ hy)) ∙ e) in
-      ap₂ bitAnd (sym (split x k)) (sym (split y k))
-      ∙ and-block k (x / 2 ^ k) (y / 2 ^ k) (x % 2 ^ k) (y % 2 ^ k) (mod-lt x (pow-pos k)) (mod-lt y (pow-pos k))
-      ∙ ap₂ (λ (a b : ℕ). a * 2 ^ k + b) (clear _ _ hx hy (z .1)) (clear _ _ (mod-lt x (pow-pos k)) (mod-lt y (pow-pos k)) (z .0))
-      ∙ zero
+  halves-clear : (x y : ℕ) → x / 2 ^ k < 2 ^ k → y / 2 ^ k < 2 ^ k
+      → (bitAnd (T (x % 2 ^ k) * 2 ^ k + T (x / 2 ^ k)) (T (y % 2 ^ k) * 2 ^ k + T (y / 2 ^ k)) ≡ 0) ↔ (bitAnd x y ≡ 0)
+  halves-clear x y hx hy =
+      let lx = mod-lt x (pow-pos k) in
+      let ly = mod-lt y (pow-pos k) in
+      let turned = and-block k (T (x % 2 ^ k)) (T (y % 2 ^ k)) (T (x / 2 ^ k)) (T (y / 2 ^ k)) (room _ hx) (room _ hy) in
+      let plain = ap₂ bitAnd (sym (split x k)) (sym (split y k)) ∙ and-block k (x / 2 ^ k) (y / 2 ^ k) (x % 2 ^ k) (y % 2 ^ k) lx ly in (
+        (λ e. let z = none _ _ (sym turned ∙ e) in plain ∙ ap₂ (λ (a b : ℕ). a * 2 ^ k + b) (clear _ _ hx hy .0 (z .1)) (clear _ _ lx ly .0 (z .0)) ∙ zero),
+        (λ e. let z = none _ _ (sym plain ∙ e) in turned ∙ ap₂ (λ (a b : ℕ). a * 2 ^ k + b) (clear _ _ lx ly .1 (z .1)) (clear _ _ hx hy .1 (z .0)) ∙ zero),
+      )
 
 room2 : (z : ℕ) → z < 2 ^ 16 → turned2 z < 2 ^ 16
 unfolding turned2
@@ -27,18 +31,18 @@ room4 : (z : ℕ) → z < 2 ^ 32 → turned4 z < 2 ^ 32
 unfolding turned4
 room4 z h = omega (arith, room2 (z % 65536) (omega arith), room2 (z / 65536) (omega arith))
 
-clear2 : (x y : ℕ) → x < 2 ^ 16 → y < 2 ^ 16 → bitAnd (turned2 x) (turned2 y) ≡ 0 → bitAnd x y ≡ 0
+clear2 : (x y : ℕ) → x < 2 ^ 16 → y < 2 ^ 16 → (bitAnd (turned2 x) (turned2 y) ≡ 0) ↔ (bitAnd x y ≡ 0)
 unfolding turned2
-clear2 x y hx hy e = halves-clear 8 (λ z. z) (λ z h. h) (λ a b h k t. t) (λ a b t. (omega arith, omega arith)) (omega arith) x y (omega arith) (omega arith) e
+clear2 x y hx hy = halves-clear 8 (λ z. z) (λ z h. h) (λ a b h k. ((λ t. t), (λ t. t))) (λ a b t. (omega arith, omega arith)) (omega arith) x y (omega arith) (omega arith)
 
-clear4 : (x y : ℕ) → x < 2 ^ 32 → y < 2 ^ 32 → bitAnd (turned4 x) (turned4 y) ≡ 0 → bitAnd x y ≡ 0
+clear4 : (x y : ℕ) → x < 2 ^ 32 → y < 2 ^ 32 → (bitAnd (turned4 x) (turned4 y) ≡ 0) ↔ (bitAnd x y ≡ 0)
 unfolding turned4
-clear4 x y hx hy e = halves-clear 16 turned2 room2 clear2 (λ a b t. (omega arith, omega arith)) (omega arith) x y (omega arith) (omega arith) e
+clear4 x y hx hy = halves-clear 16 turned2 room2 clear2 (λ a b t. (omega arith, omega arith)) (omega arith) x y (omega arith) (omega arith)
 
--- turned numbers with no bit in common had none
-pub clear8 : (x y : ℕ) → x < 2 ^ 64 → y < 2 ^ 64 → bitAnd (turned8 x) (turned8 y) ≡ 0 → bitAnd x y ≡ 0
+-- turned numbers have a bit in common just where they had one before
+pub clear8 : (x y : ℕ) → x < 2 ^ 64 → y < 2 ^ 64 → (bitAnd (turned8 x) (turned8 y) ≡ 0) ↔ (bitAnd x y ≡ 0)
 unfolding turned8
-clear8 x y hx hy e = halves-clear 32 turned4 room4 clear4 (λ a b t. (omega arith, omega arith)) (omega arith) x y (omega arith) (omega arith) e
+clear8 x y hx hy = halves-clear 32 turned4 room4 clear4 (λ a b t. (omega arith, omega arith)) (omega arith) x y (omega arith) (omega arith)
 
 -- ---- a number from its halves
 

@@ -1,9 +1,9 @@
 -- A clause with no literal that fails anew stays settled, and so needs no look.
 -- Assumes nothing.
 use Prim.Native.Nat.{ℕ, _+_, _-_, _≤_, _<_, _^_}
-use mathlib.Core.Path.{_≡_, refl, sym, ap, subst, _∙_}
+use mathlib.Core.Path.{_≡_, refl, sym, ap, ap₂, subst, _∙_}
 use mathlib.Core.Bool.{Bool, true, false, not, true≢false, _||_}
-use mathlib.Core.Logic.{_⊎_, inl, inr}
+use mathlib.Core.Logic.{_⊎_, inl, inr, _↔_}
 use mathlib.Core.List.{List}
 use native.Mathlib.Omega.{arith}
 use native.Mathlib.Decide.{decLt}
@@ -23,7 +23,7 @@ use Rattle.propagation.proofs.PassLaws.{going-none, stays, quiet-any, l
 
 -- ---- what the test tells
 
-pub neither : (a b : ℕ) → bitOr a b ≡ 0 → (a ≡ 0) × (b ≡ 0)
+neither : (a b : ℕ) → bitOr a b ≡ 0 → (a ≡ 0) × (b ≡ 0)
 neither a b e = (omega (arith, or-add-and a b, and-le-l a b, and-le-r a b), omega (arith, or-add-and a b, and-le-l a b, and-le-r a b))
 
 -- of four in a row
@@ -49,14 +49,15 @@ pub missed-more : {M : ℕ → Type 0} {i k n : ℕ} → ((j : ℕ) → i ≤ j 
 missed-more {M} {i} {k} {n} u v j l h = elim (decLt j k) [ yes p ↦ u j l p | no p ↦ v j (omega arith) h ]
 
 -- what the bytes of a clause and of masks have in common, in either order
-pub hit-misses : (two : Bool) (p n off on : ℕ) → p < 2 ^ 64 → n < 2 ^ 64 → off < 2 ^ 64 → on < 2 ^ 64 → bitOr (bitAnd (turned8 p) (turned8 off)) (bitAnd (turned8 n) (turned8 on)) ≡ 0
-    → Misses two off on (record { positive = p; negative = n })
-hit-misses two p n off on hp hn ho hi e =
-    let z = neither (bitAnd (turned8 p) (turned8 off)) (bitAnd (turned8 n) (turned8 on)) e in
-    ((λ t. clear8 p off hp ho (z .0)), clear8 n on hn hi (z .1))
+pub hit-misses : {two : Bool} (p n off on : ℕ) → two ≡ true → p < 2 ^ 64 → n < 2 ^ 64 → off < 2 ^ 64 → on < 2 ^ 64
+    → (bitOr (bitAnd (turned8 p) (turned8 off)) (bitAnd (turned8 n) (turned8 on)) ≡ 0) ↔ Misses two off on (record { positive = p; negative = n })
+hit-misses p n off on s hp hn ho hi = (
+  (λ e. let z = neither (bitAnd (turned8 p) (turned8 off)) (bitAnd (turned8 n) (turned8 on)) e in ((λ t. clear8 p off hp ho .0 (z .0)), clear8 n on hn hi .0 (z .1))),
+  (λ m. ap₂ bitOr (clear8 p off hp ho .1 (m .0 s)) (clear8 n on hn hi .1 (m .1))),
+)
 
-pub hit-body : {two : Bool} (p n off on : ℕ) → two ≡ false → n < 2 ^ 64 → on < 2 ^ 64 → bitAnd (turned8 n) (turned8 on) ≡ 0 → Misses two off on (record { positive = p; negative = n })
-hit-body p n off on s hn hi e = ((λ t. absurd (true≢false (sym t ∙ s))), clear8 n on hn hi e)
+pub hit-body : {two : Bool} (p n off on : ℕ) → two ≡ false → n < 2 ^ 64 → on < 2 ^ 64 → (bitAnd (turned8 n) (turned8 on) ≡ 0) ↔ Misses two off on (record { positive = p; negative = n })
+hit-body p n off on s hn hi = ((λ e. ((λ t. absurd (true≢false (sym t ∙ s))), clear8 n on hn hi .0 e)), (λ m. clear8 n on hn hi .1 (m .1)))
 
 spared-by : (s : Bool) (b x : Assignment) (c : Clause) → bitAnd (mask s c) (without (failing s x) (failing s b)) ≡ 0 → Spared s b x c
 spared-by s b x c e f h t =

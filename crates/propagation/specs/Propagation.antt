@@ -177,6 +177,13 @@ Misses two off on c = (two ≡ true → bitAnd (c .positive) off ≡ 0) × (bitA
 abbrev pub MissedAt : List ℕ → ℕ → Bool → ℕ → ℕ → ℕ → ℕ → Type 0
 MissedAt bytes at two off on i k = (j : ℕ) → i ≤ j → j < k → Misses two off on (wordsAt bytes at j)
 
+-- r is the first clause from i on that does not, or the count
+pub record FirstHit (bytes : List ℕ) (at count : ℕ) (two : Bool) (off on i r : ℕ) : Type 0 where
+  pub from : i ≤ r
+  pub until : r ≤ count
+  pub past : MissedAt bytes at two off on i r
+  pub there : r < count → Misses two off on (wordsAt bytes at r) → ⊥
+
 -- the clause was settled at some time from b to x
 pub record Looked (two : Bool) (b x : Assignment) (c : Clause) : Type 0 where
   pub seen : Assignment

@@ -8,11 +8,12 @@ use meaning::Clause;
 use task::Action;
 ghost use mathlib.Core.Path.{_≡_};
 ghost use mathlib.Core.Bool.{true, false};
+ghost use mathlib.Core.Logic.{_↔_};
 ghost use Prim.Native.Nat.{_+_, _-_, _*_, _<_, _≤_, _^_};
 ghost use lib.ListN.{length};
 ghost use Rattle.task.specs.Facts.{without};
 ghost use Rattle.propagation.specs.Clauses.{clauseAt, clauseCount, sameAs, onIn};
-ghost use Rattle.propagation.specs.Propagation.{acting, effectOf, pulledBy, wordsAt, Only, Below, ofWords, ofKind, LeafOf, LeftOf, Alike, Tells, Misses, MissedAt, Based, Passed, Solved, RoomAt, Roomy};
+ghost use Rattle.propagation.specs.Propagation.{acting, effectOf, pulledBy, wordsAt, Only, Below, ofWords, ofKind, LeafOf, LeftOf, Alike, Tells, Misses, MissedAt, FirstHit, Based, Passed, Solved, RoomAt, Roomy};
 
 // Facts known to be on and facts known to be off.
 pub struct Assignment {
@@ -217,11 +218,11 @@ fn unit(x: Assignment, c: Clause) -> Assignment
     x
 }
 
-// What a clause in the file has in common with masks, its bytes in the machine's order: 0 only where that is nothing. Of Horn
-// clauses only the body is looked at.
+// What a clause in the file has in common with masks, its bytes in the machine's order: 0 where that is nothing. Of a Horn
+// clause only the body is looked at.
 fn hit(file: &[u8], at: u32, i: u32, two: bool, off: u64, on: u64) -> u64
     requires { ⌜ at + 16 * i + 16 ≤ length (now file) ⌝ }
-    ensures { λ r. ⌜ (r ≡ 0 → Misses two off on (wordsAt (now (file .entry)) at i)) ⌝ }
+    ensures { λ r. ⌜ (r ≡ 0) ↔ Misses two off on (wordsAt (now (file .entry)) at i) ⌝ }
 {
     let place = at as usize + 16 * (i as usize);
     let n = u64_turned(file, place + 8);
@@ -259,10 +260,10 @@ fn past_fours(file: &[u8], at: u32, count: u32, i: u32, two: bool, off: u64, on:
     j
 }
 
-// Past clauses that miss masks, up to one that may not.
+// The first clause from i on that has a fact in common with masks, or the count where none has.
 pub fn next_hit(file: &[u8], at: u32, count: u32, i: u32, two: bool, off: u64, on: u64) -> u32
     requires { ⌜ (i ≤ count) × (at + 16 * count ≤ length (now file)) ⌝ }
-    ensures { λ r. ⌜ (i ≤ r) × (r ≤ count) × MissedAt (now (file .entry)) at two off on i r ⌝ }
+    ensures { λ r. ⌜ FirstHit (now (file .entry)) at count two off on i r ⌝ }
 {
     let mut j = past_fours(file, at, count, i, two, off, on);
     while j < count {

@@ -2,6 +2,7 @@
 
 use reference::{Answer, Reply};
 
+use crate::earlier::Earlier;
 use crate::files::{Question, Timed};
 use crate::proved;
 
@@ -13,6 +14,15 @@ pub fn reply(file: &Timed) -> Result<Reply, String> {
     }
     let Timed { name, expected, .. } = file;
     Err(format!("{name}: the proved checker says {ours}, the reference {other}; expected is {expected}"))
+}
+
+/// An earlier build replies as this one does.
+pub fn same(file: &Timed, build: &Earlier) -> Result<(), String> {
+    let (before, ours) = (proved::reply(build.check(&file.bytes)), proved::reply(proved::check(&file.bytes)));
+    if before == ours {
+        return Ok(());
+    }
+    Err(format!("{}: the proved checker says {ours}, its earlier build {before}", file.name))
 }
 
 /// The answer to a question.

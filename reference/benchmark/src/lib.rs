@@ -2,6 +2,7 @@
 //! bytes: which files are timed, how, and how the figures are printed.
 
 pub mod agreement;
+pub mod earlier;
 pub mod files;
 pub mod format;
 pub mod proved;

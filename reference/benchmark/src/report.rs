@@ -1,23 +1,25 @@
 //! The report: times on the workloads and the worst cases, how times grow, and the proved
-//! checker's stack, as Markdown. It ends at the first reply that is not as it should be.
+//! checker's stack, as Markdown. It ends at the first reply that is not as it should be. Where an
+//! earlier build of the proved checker is given, its times stand beside.
 
 use crate::agreement;
+use crate::earlier::Earlier;
 use crate::files::{deepest, questions, series, workloads, worst_cases, Question, Series, Timed};
 use crate::format::{count, head, ratio, row, time};
 use crate::timing::{compare, Pace, Times};
 use crate::{proved, stack};
 
 /// Measures and prints, row by row.
-pub fn print(pace: Pace) -> Result<(), String> {
+pub fn print(pace: Pace, earlier: Option<&Earlier>) -> Result<(), String> {
     println!("{}", circumstances(pace));
     let (workloads, worst, series) = (workloads(), worst_cases(), series());
-    println!("\n## Workloads\n\n{}", head(&TIMES));
+    println!("\n## Workloads\n\n{}", head(&with_before(&TIMES, earlier.map(|_| BEFORE))));
     for file in workloads.iter().chain(&worst) {
-        println!("{}", times_row(file, pace)?);
+        println!("{}", times_row(file, pace, earlier)?);
     }
-    println!("\n## Growth\n\n{}", head(&GROWTH));
+    println!("\n## Growth\n\n{}", head(&with_before(&GROWTH, earlier.map(|_| BEFORE))));
     for one in &series {
-        print_growth(one, pace)?;
+        print_growth(one, pace, earlier)?;
     }
     println!("\n## Deepest stack of the proved checker\n\n{}", head(&["call", ">bytes", "file or entry"]));
     println!("{}", check_stack("check, workloads", &workloads)?);
@@ -36,7 +38,7 @@ fn circumstances(pace: Pace) -> String {
     let load = load.split(' ').next().unwrap_or_default();
     let processors = std::thread::available_parallelism().map_or(1, |number| number.get());
     format!(
-        "{} rounds; in each, both checkers check the same bytes in one process, taking turns in who goes first, \
+        "{} rounds; in each, every checker checks the same bytes in one process, taking turns in who goes first, \
          for at least {} ms each,\nand the best time counts. Times and ratios (proved / reference) are the medians of \
          the rounds. Load before: {load} on {processors} processors.",
         pace.rounds,
@@ -47,11 +49,25 @@ fn circumstances(pace: Pace) -> String {
 const TIMES: [&str; 8] =
     ["file", ">bytes", "reply", ">proved", ">reference", ">ratio", ">least..greatest", "scaled down"];
 
-fn times_row(file: &Timed, pace: Pace) -> Result<String, String> {
+/// The columns of an earlier build, after the others.
+const BEFORE: [&str; 2] = [">before", ">proved / before"];
+
+fn with_before<T: Clone>(cells: &[T], before: Option<[T; 2]>) -> Vec<T> {
+    cells.iter().cloned().chain(before.into_iter().flatten()).collect()
+}
+
+fn before_cells(times: &Times) -> Option<[String; 2]> {
+    times.earlier.map(|(seconds, over)| [time(seconds), ratio(over)])
+}
+
+fn times_row(file: &Timed, pace: Pace, earlier: Option<&Earlier>) -> Result<String, String> {
     let reply = agreement::reply(file)?;
-    let times = compare(pace, &file.bytes);
+    if let Some(build) = earlier {
+        agreement::same(file, build)?;
+    }
+    let times = compare(pace, &file.bytes, earlier);
     let (least, greatest) = times.spread();
-    Ok(row(&[
+    let cells = [
         file.name.clone(),
         count(file.bytes.len()),
         reply.to_string(),
@@ -60,18 +76,19 @@ fn times_row(file: &Timed, pace: Pace) -> Result<String, String> {
         ratio(times.ratio()),
         format!("{}..{}", ratio(least), ratio(greatest)),
         file.scaled.clone(),
-    ]))
+    ];
+    Ok(row(&with_before(&cells, before_cells(&times))))
 }
 
 const GROWTH: [&str; 8] =
     ["what grows", ">size", ">bytes", ">proved", ">grew by", ">reference", ">grew by", ">ratio"];
 
 /// A row for each size.
-fn print_growth(series: &Series, pace: Pace) -> Result<(), String> {
+fn print_growth(series: &Series, pace: Pace, earlier: Option<&Earlier>) -> Result<(), String> {
     let mut before = None;
     for (size, file) in series.sizes.iter().zip(&series.files) {
         agreement::reply(file)?;
-        let times = compare(pace, &file.bytes);
+        let times = compare(pace, &file.bytes, earlier);
         println!("{}", growth_row(series.name, *size, file, &times, before.as_ref()));
         before = Some(times);
     }
@@ -81,7 +98,7 @@ fn print_growth(series: &Series, pace: Pace) -> Result<(), String> {
 /// The times at one size, and how much longer they are than at half of it.
 fn growth_row(name: &str, size: usize, file: &Timed, times: &Times, before: Option<&Times>) -> String {
     let grew = |pick: fn(&Times) -> f64| before.map_or(String::new(), |old| ratio(pick(times) / pick(old)));
-    row(&[
+    let cells = [
         name.to_string(),
         count(size),
         count(file.bytes.len()),
@@ -90,7 +107,8 @@ fn growth_row(name: &str, size: usize, file: &Timed, times: &Times, before: Opti
         time(times.reference),
         grew(|times| times.reference),
         ratio(times.ratio()),
-    ])
+    ];
+    row(&with_before(&cells, before_cells(times)))
 }
 
 /// The most stack that a check of one of the files uses, and which file that is.

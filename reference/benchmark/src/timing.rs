@@ -1,9 +1,11 @@
-//! Both checkers timed on one file. A round times both, one after the other, each as the
-//! best of repeated checks; the rounds take turns in who goes first.
+//! Checkers timed on one file: the proved one, the reference, and an earlier build of the proved
+//! one where there is one. A round times each, one after the other, as the best of repeated checks;
+//! the rounds take turns in who goes first.
 
 use std::hint::black_box;
 use std::time::{Duration, Instant};
 
+use crate::earlier::Earlier;
 use crate::proved;
 
 /// How long to measure.
@@ -20,21 +22,34 @@ impl Pace {
     pub const QUICK: Pace = Pace { rounds: 3, least: Duration::from_millis(5) };
 }
 
+/// One round's times in seconds.
+#[derive(Clone, Copy)]
+pub struct Round {
+    pub proved: f64,
+    pub reference: f64,
+    pub earlier: Option<f64>,
+}
+
 /// Times in seconds, the median of the rounds, and the ratio of each round, ascending.
 pub struct Times {
     pub proved: f64,
     pub reference: f64,
     ratios: Vec<f64>,
+    /// The earlier build's time, and the proved checker's over it, the median of the rounds.
+    pub earlier: Option<(f64, f64)>,
 }
 
 impl Times {
-    /// Of the times of each round, the proved checker's first.
-    pub fn of(rounds: &[(f64, f64)]) -> Times {
-        let side = |pick: fn(&(f64, f64)) -> f64| sorted(rounds.iter().map(pick));
+    pub fn of(rounds: &[Round]) -> Times {
+        let side = |pick: fn(&Round) -> f64| sorted(rounds.iter().map(pick));
+        let before: Vec<(f64, f64)> =
+            rounds.iter().filter_map(|round| Some((round.earlier?, round.proved / round.earlier?))).collect();
+        let of_before = |pick: fn(&(f64, f64)) -> f64| median(&sorted(before.iter().map(pick)));
         Times {
-            proved: median(&side(|round| round.0)),
-            reference: median(&side(|round| round.1)),
-            ratios: side(|round| round.0 / round.1),
+            proved: median(&side(|round| round.proved)),
+            reference: median(&side(|round| round.reference)),
+            ratios: side(|round| round.proved / round.reference),
+            earlier: (!before.is_empty()).then(|| (of_before(|pair| pair.0), of_before(|pair| pair.1))),
         }
     }
 
@@ -49,20 +64,24 @@ impl Times {
     }
 }
 
-/// Times both checkers on a file.
-pub fn compare(pace: Pace, file: &[u8]) -> Times {
-    let proved = || best(pace.least, || proved::check(black_box(file)));
-    let reference = || best(pace.least, || reference::check(black_box(file)));
-    let round = |number: usize| {
-        if number % 2 == 0 {
-            let first = proved();
-            (first, reference())
-        } else {
-            let first = reference();
-            (proved(), first)
-        }
+/// Times the checkers on a file.
+pub fn compare(pace: Pace, file: &[u8], earlier: Option<&Earlier>) -> Times {
+    let time = |who: usize| match (who, earlier) {
+        (0, _) => best(pace.least, || proved::check(black_box(file))),
+        (1, _) => best(pace.least, || reference::check(black_box(file))),
+        (_, Some(build)) => best(pace.least, || build.check(black_box(file))),
+        (_, None) => f64::NAN,
     };
-    Times::of(&(0..pace.rounds).map(round).collect::<Vec<(f64, f64)>>())
+    let many = 2 + earlier.iter().count();
+    let round = |number: usize| {
+        let mut times = [f64::NAN; 3];
+        for turn in 0..many {
+            let who = (number + turn) % many;
+            times[who] = time(who);
+        }
+        Round { proved: times[0], reference: times[1], earlier: earlier.map(|_| times[2]) }
+    };
+    Times::of(&(0..pace.rounds).map(round).collect::<Vec<Round>>())
 }
 
 /// The least time of one run, in seconds, among runs that last so long all together; there

@@ -2,6 +2,7 @@
 //! the size that its name says.
 
 use benchmark::files::{deepest, questions, series, workloads, worst_cases, Timed, ACTIONS, RIGHT_CLAUSES};
+use benchmark::earlier::Earlier;
 use benchmark::{agreement, proved, stack};
 use reference::file::File;
 use reference::layout::MAX_BYTES;
@@ -51,6 +52,23 @@ fn another_reply_than_expected_is_an_error() {
     assert!(agreement::answer(&question).is_err());
 }
 
+/// This build as a shared object, as `reference/bench --before` makes one of an earlier build.
+#[test]
+fn an_earlier_build_is_loaded_beside_this_one() {
+    let library = concat!(env!("CARGO_MANIFEST_DIR"), "/../../target/staticlib/liblink.a");
+    let object = std::env::temp_dir().join(format!("before-{}.so", std::process::id()));
+    let path = object.to_str().expect("a plain name");
+    let words = ["-shared", "-o", path, "-Wl,--whole-archive", library, "-Wl,--no-whole-archive"];
+    assert!(std::process::Command::new("cc").args(words).status().expect("cc").success());
+    let build = Earlier::load(path).unwrap_or_else(|message| panic!("{message}"));
+    std::fs::remove_file(&object).expect("the object");
+    for file in [deepest(), workloads().swap_remove(3)] {
+        assert_eq!(build.check(&file.bytes), proved::check(&file.bytes));
+        assert_eq!(agreement::same(&file, &build), Ok(()));
+    }
+    assert!(Earlier::load("/no/such/object.so").is_err());
+}
+
 #[test]
 fn workloads_are_as_large_as_they_say() {
     let files: Vec<File> = workloads().iter().map(read).collect();
@@ -69,6 +87,9 @@ fn worst_cases_are_as_large_as_they_say() {
         let clauses: Vec<usize> = three.iter().map(|file| file.clauses.len()).collect();
         assert_eq!(clauses, [left + right, left + right, left]);
         assert_eq!(three[2].task.actions.len(), ACTIONS);
+        // Each link of the chain stands once, and so does what closes it.
+        let chain = |file: &File| file.clauses[..left].iter().filter(|c| c.negative != 3 << 62).count();
+        assert_eq!(three.iter().map(chain).collect::<Vec<usize>>(), [59 + 2, 59 + 2, 62 + 3]);
     }
     assert_eq!((files[18].action_sets.len(), files[19].state_sets.len()), (256, 512));
 }

@@ -5,7 +5,7 @@ use std::time::Duration;
 
 use benchmark::format::{count, head, ratio, row, time};
 use benchmark::proved::{answer, reply};
-use benchmark::timing::{best, median, Times};
+use benchmark::timing::{best, median, Round, Times};
 use reference::{Answer, Reply};
 
 #[test]
@@ -18,10 +18,14 @@ fn median_of_odd_and_even() {
 
 #[test]
 fn ratios_are_taken_round_by_round() {
-    let times = Times::of(&[(4.0, 2.0), (9.0, 3.0), (5.0, 5.0)]);
+    let round = |proved, reference, earlier| Round { proved, reference, earlier };
+    let times = Times::of(&[round(4.0, 2.0, None), round(9.0, 3.0, None), round(5.0, 5.0, None)]);
     assert_eq!((times.proved, times.reference), (5.0, 3.0));
     assert_eq!(times.ratio(), 2.0);
     assert_eq!(times.spread(), (1.0, 3.0));
+    assert_eq!(times.earlier, None);
+    let times = Times::of(&[round(4.0, 2.0, Some(8.0)), round(9.0, 3.0, Some(9.0)), round(5.0, 5.0, Some(2.0))]);
+    assert_eq!((times.ratio(), times.earlier), (2.0, Some((8.0, 1.0))));
 }
 
 #[test]

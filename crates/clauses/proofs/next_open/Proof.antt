@@ -9,7 +9,7 @@ next-hit-requires : tie.Need-next-hit-requires
 next-hit-requires c κs = let s = c .before .before in (s .pre .0, s .pre .1 (c .if1 .taken))
 
 returns : tie.Need-returns
-returns c = let h = c .next-hit .ensures in (h .0, h .1, λ j l m. (c .before .if1 .taken, h .2 j l m))
+returns c = let h = c .next-hit .ensures in (h .from, h .until, λ j l m. (c .before .if1 .taken, h .past j l m))
 
 returns-2 : tie.Need-returns-2
 returns-2 c = (search needs, search needs, λ j l m. absurd (omega arith))

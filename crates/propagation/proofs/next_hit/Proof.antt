@@ -18,16 +18,18 @@ loop-holds : tie.Need-loop-holds Inv-loop μ-loop
 loop-holds c = c .past-fours .ensures
 
 returns : tie.Need-returns Inv-loop μ-loop
-returns c = c .before .before .before .loop .inv
+returns c =
+    let v = c .before .before .before .loop .inv in
+    record { from = v .0; until = v .1; past = v .2; there = λ l m. c .if1 .taken (c .before .hit .ensures .1 m) }
 
 loop-again : tie.Need-loop-again Inv-loop μ-loop
 loop-again c =
     let v = c .before .before .before .loop in
     let a = c .before .before .before .before .before .before .args in
-    (search needs, search needs, missed-more (v .inv .2) (missed-one (λ k. Misses (a .two) (a .off) (a .on) (wordsAt (a .file .now) (a .at) k)) (v .j) (c .before .hit .ensures (c .if1 .left))))
+    (search needs, search needs, missed-more (v .inv .2) (missed-one (λ k. Misses (a .two) (a .off) (a .on) (wordsAt (a .file .now) (a .at) k)) (v .j) (c .before .hit .ensures .0 (c .if1 .left))))
 
 returns-2 : tie.Need-returns-2 Inv-loop μ-loop
-returns-2 c = c .before .loop .inv
+returns-2 c = let v = c .before .loop .inv in record { from = v .0; until = v .1; past = v .2; there = λ l. absurd (omega arith) }
 
 pub next-hit-spec : {M : Type 1} → statement M
 next-hit-spec =

@@ -19,35 +19,32 @@ abbrev μ-loop : tie.MeasureT-loop
 loop-holds : tie.Need-loop-holds Inv-loop μ-loop
 loop-holds c = (search needs, passed-none _ _)
 
-returns : tie.Need-returns Inv-loop μ-loop
-returns c =
-    let s = c .before .before .before .before .before .before .before in
+-- clauses that miss what came to fail need no look
+upto : (c : tie.After-next-hit Inv-loop μ-loop)
+    → let a = c .before .before .before .before .before .before .args in
+    Passed (a .two) (Below (ofWords (a .file .now) (a .at) (a .by)) (c .next-hit .result)) (a .start) (c .before .before .before .before .loop .x)
+upto c =
+    let loop = c .before .before .before .before in
+    let s = loop .before .before in
     let a = s .args in
-    let v = c .before .before .before .before .before .loop in
-    let n = c .before .next-hit in
-    rw (c .if1 .taken) at (passed-missed (a .file .now) (a .at) (a .count) (a .by) (a .base) _ _ (v .i) (n .result) _ _ (s .pre .1) (n .ensures .0) (n .ensures .1) (c .before .before .before .without .ensures) (c .before .before .without2 .ensures) (n .ensures .2) (v .inv .1))
+    let n = c .next-hit in
+    passed-missed (a .file .now) (a .at) (a .count) (a .by) (a .base) _ _ (loop .loop .i) (n .result) _ _ (s .pre .1) (n .ensures .from) (n .ensures .until)
+    (c .before .before .without .ensures) (c .before .without2 .ensures) (n .ensures .past) (loop .loop .inv .1)
+
+returns : tie.Need-returns Inv-loop μ-loop
+returns c = rw (c .if1 .taken) at (upto (c .before))
 
 returns-2 : tie.Need-returns-2 Inv-loop μ-loop
 returns-2 c =
-    let s = c .before .before .before .before .before .before .before .before .before .before .before in
-    let a = s .args in
-    let v = c .before .before .before .before .before .before .before .before .before .loop in
-    let n = c .before .before .before .before .before .next-hit in
-    passed-early (ofWords _ _ _) _ _ (search needs) (c .if2 .taken)
-    (passed-missed (a .file .now) (a .at) (a .count) (a .by) (a .base) _ _ (v .i) (n .result) _ _ (s .pre .1) (n .ensures .0) (n .ensures .1) (c .before .before .before .before .before .before .before .without .ensures) (c .before .before .before .before .before .before .without2 .ensures) (n .ensures .2) (v .inv .1))
+    passed-early (ofWords _ _ _) _ _ (search needs) (c .if2 .taken) (upto (c .before .before .before .before .before))
     (passed-any _ (rw (c .before .before .pulled .ensures, c .before .before .before .words-in .ensures) at (c .before .unit .ensures)))
 
 loop-again : tie.Need-loop-again Inv-loop μ-loop
-loop-again c =
-    let s = c .before .before .before .before .before .before .before .before .before .before .before in
-    let a = s .args in
-    let v = c .before .before .before .before .before .before .before .before .before .loop in
-    let n = c .before .before .before .before .before .next-hit in (
-      search needs,
-      passed-more (ofWords _ _ _) _
-          (passed-missed (a .file .now) (a .at) (a .count) (a .by) (a .base) _ _ (v .i) (n .result) _ _ (s .pre .1) (n .ensures .0) (n .ensures .1) (c .before .before .before .before .before .before .before .without .ensures) (c .before .before .before .before .before .before .without2 .ensures) (n .ensures .2) (v .inv .1))
-          (passed-any _ (rw (c .before .before .pulled .ensures, c .before .before .before .words-in .ensures) at (c .before .unit .ensures))),
-    )
+loop-again c = (
+  search needs,
+  passed-more (ofWords _ _ _) _ (upto (c .before .before .before .before .before))
+      (passed-any _ (rw (c .before .before .pulled .ensures, c .before .before .before .words-in .ensures) at (c .before .unit .ensures))),
+)
 
 returns-3 : tie.Need-returns-3 Inv-loop μ-loop
 returns-3 c =
