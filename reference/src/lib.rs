@@ -4,6 +4,7 @@
 
 pub mod assemble;
 pub mod clauses;
+pub mod cost;
 pub mod derivation;
 pub mod draft;
 pub mod explicit;

@@ -6,10 +6,10 @@ use std::process::ExitCode;
 use reference::generate::limits::workload;
 use reference::generate::random::Random;
 use reference::generate::{cases, damaged, Case};
-use reference::{ask, assemble, check, show};
+use reference::{ask, assemble, check, cost, show};
 
 const USAGE: &str = "usage: reference check FILE | ask FILE ENTRY STATE | gen SEED COUNT | damaged FILE SEED COUNT | replies | pack | \
-assemble TEXTFILE | show FILE | workload NUMBER SEED   (FILE may be - for standard input)";
+assemble TEXTFILE | show FILE | cost FILE | workload NUMBER SEED   (FILE may be - for standard input)";
 
 /// What stops a command: a wrong call, or a message.
 enum Stop {
@@ -74,6 +74,19 @@ fn run(words: &[&str]) -> Result<(), Stop> {
             out.write_all(&assemble::assemble(&text).map_err(Stop::Message)?)?;
         }
         ["show", file] => out.write_all(show::show(&read(file)?).as_bytes())?,
+        ["cost", file] => match cost::of(&read(file)?) {
+            Err(fault) => writeln!(out, "refused {} {}", fault.number, fault.place)?,
+            Ok(costs) => {
+                writeln!(
+                    out,
+                    "at most {} looks at clauses",
+                    costs.iter().map(|cost| cost.looks).sum::<u64>()
+                )?;
+                if let Some(most) = costs.iter().max_by_key(|cost| cost.looks) {
+                    writeln!(out, "step {}: at most {}", most.step, most.looks)?;
+                }
+            }
+        },
         ["workload", which, seed] => {
             let which = number(which)?;
             if !(1..=4).contains(&which) {

@@ -39,6 +39,18 @@ fn check_and_ask() {
 }
 
 #[test]
+fn cost_of_a_file() {
+    assert_eq!(printed(&["cost", &sample("sample.cert")], b""), "at most 0 looks at clauses\n");
+    assert_eq!(printed(&["cost", "-"], b""), "refused 1 0\n");
+    let horn = std::fs::read(sample("cases/05.cert")).expect("the fifth case");
+    // B2 at step 1: two actions, one clause on the left and on the right; then S&G within 0 and I within S.
+    let looks = [2 * (3 + 2 + 2), (1 + 64) * (3 + 2 + 2), 64 * (3 + 2 + 2)];
+    let all: u64 = looks.iter().sum();
+    let printed = printed(&["cost", "-"], &horn);
+    assert_eq!(printed, format!("at most {all} looks at clauses\nstep 2: at most {}\n", looks[1]));
+}
+
+#[test]
 fn both_text_forms() {
     let bytes = std::fs::read(sample("sample.cert")).expect("the sample");
     assert_eq!(run(&["assemble", &sample("sample.txt")], b"").stdout, bytes);

@@ -22,13 +22,19 @@ impl Earlier {
         // Safe: both strings end with a zero byte, and what is loaded runs no code by itself.
         let found = unsafe {
             let object = dlopen(name.as_ptr(), NOW);
-            if object.is_null() { object } else { dlsym(object, c"certificate_check".as_ptr()) }
+            if object.is_null() {
+                object
+            } else {
+                dlsym(object, c"certificate_check".as_ptr())
+            }
         };
         if found.is_null() {
             return Err(format!("{path}: no shared object with certificate_check"));
         }
         // The name has this type in every build so far.
-        let check = unsafe { std::mem::transmute::<*mut c_void, unsafe extern "C" fn(*const u8, usize) -> u64>(found) };
+        let check = unsafe {
+            std::mem::transmute::<*mut c_void, unsafe extern "C" fn(*const u8, usize) -> u64>(found)
+        };
         Ok(Earlier { check })
     }
 

@@ -1,8 +1,8 @@
 //! Every timed file and every question gets the expected reply from both checkers, and has
 //! the size that its name says.
 
-use benchmark::files::{deepest, questions, series, workloads, worst_cases, Timed, ACTIONS, RIGHT_CLAUSES};
 use benchmark::earlier::Earlier;
+use benchmark::files::{deepest, questions, series, workloads, worst_cases, Timed, ACTIONS, RIGHT_CLAUSES};
 use benchmark::{agreement, proved, stack};
 use reference::file::File;
 use reference::layout::MAX_BYTES;

@@ -24,7 +24,8 @@ fn ratios_are_taken_round_by_round() {
     assert_eq!(times.ratio(), 2.0);
     assert_eq!(times.spread(), (1.0, 3.0));
     assert_eq!(times.earlier, None);
-    let times = Times::of(&[round(4.0, 2.0, Some(8.0)), round(9.0, 3.0, Some(9.0)), round(5.0, 5.0, Some(2.0))]);
+    let times =
+        Times::of(&[round(4.0, 2.0, Some(8.0)), round(9.0, 3.0, Some(9.0)), round(5.0, 5.0, Some(2.0))]);
     assert_eq!((times.ratio(), times.earlier), (2.0, Some((8.0, 1.0))));
 }
 
