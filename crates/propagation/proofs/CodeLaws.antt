@@ -7,7 +7,7 @@ use mathlib.Core.List.{List}
 use native.Mathlib.Omega.{arith}
 use native.Mathlib.Nat.{mod-eq-of-lt}
 use lib.Pow.{pow-lt}
-use lib.Bits.{bitAnd}
+use lib.Bits.{bitAnd, bitOr, and-zero-r}
 use lib.Dec.{T, eqb, eqb→eq}
 use lib.ListN.{getD}
 use borrow.Author.Tests.{eq-eqb, ne-eqb}
@@ -17,6 +17,7 @@ use Rattle.task.proofs.Tests.{holds, and-left, and-right}
 use Rattle.meaning.specs.declared.Clause.{Clause}
 use Rattle.task.specs.Inner.{has, noAction}
 use Rattle.propagation.specs.Clauses.{sameAs, onIn, clauseAt, clauseCount, metBy, pulled}
+use Rattle.propagation.proofs.OneFact.{neither}
 use Rattle.propagation.specs.declared.Effect.{Effect}
 use Rattle.propagation.specs.Propagation.{wordsAt, effectOf, pulledBy, Before}
 
@@ -92,6 +93,18 @@ module _ (k : Effect) (c : Clause) where
   pub code-rest : (not (eqb (bitAnd (c .positive) (k .add)) 0) || not (eqb (bitAnd (c .negative) (k .gone)) 0)) ≡ false → {p n : ℕ} → p ≡ without (c .positive) (k .changed) → n ≡ without (c .negative) (k .changed) → record { positive = p; negative = n } ≡ pulledBy k c
   unfolding pulledBy
   code-rest t u v = rw (u, v, t, pulledBy)
+
+  -- an effect that does nothing
+  pub code-same : bitOr (bitOr (k .add) (k .gone)) (k .changed) ≡ 0 → c ≡ pulledBy k c
+  unfolding without
+  code-same e =
+      let z = neither (bitOr (k .add) (k .gone)) (k .changed) e in
+      let y = neither (k .add) (k .gone) (z .0) in
+      code-rest (rw (eq-eqb _ 0 (apart (c .positive) (y .0)), eq-eqb _ 0 (apart (c .negative) (y .1))) refl)
+      (omega (arith, apart (c .positive) (z .1))) (omega (arith, apart (c .negative) (z .1)))
+    where
+      apart : (m : ℕ) {j : ℕ} → j ≡ 0 → bitAnd m j ≡ 0
+      apart m q = ap (bitAnd m) q ∙ and-zero-r m
 
 -- ---- tests that several words pass
 

@@ -8,7 +8,7 @@ use mathlib.Core.List.{List}
 use native.Mathlib.Omega.{arith}
 use native.Mathlib.Decide.{decLt}
 use native.Mathlib.Nat.{le-refl}
-use lib.Bits.{bitAnd, bitOr, or-add-and, and-le-l, and-le-r}
+use lib.Bits.{bitAnd, bitOr}
 use lib.Dec.{eqb}
 use Rattle.task.specs.Facts.{without}
 use Rattle.bytes.specs.Numbers.{turned8}
@@ -18,13 +18,10 @@ use Rattle.meaning.specs.declared.Clause.{Clause}
 use Rattle.propagation.specs.declared.Assignment.{Assignment}
 use Rattle.propagation.specs.declared.Effect.{Effect}
 use Rattle.propagation.specs.Propagation.{mask, failing, pulledBy, Only, Held, Wide, Quiet, Going, Grown, Looked, Passed, Misses, MissedAt, Spared, Untouched, Based, Below, ofWords, wordsAt}
-use Rattle.propagation.proofs.OneFact.{bit-same}
+use Rattle.propagation.proofs.OneFact.{neither, bit-same}
 use Rattle.propagation.proofs.PassLaws.{going-none, stays, quiet-any, looked-longer, passed-past}
 
 -- ---- what the test tells
-
-neither : (a b : ℕ) → bitOr a b ≡ 0 → (a ≡ 0) × (b ≡ 0)
-neither a b e = (omega (arith, or-add-and a b, and-le-l a b, and-le-r a b), omega (arith, or-add-and a b, and-le-l a b, and-le-r a b))
 
 -- of four in a row
 pub four-zero : (M : ℕ → Type 0) (i a b c d : ℕ) → (a ≡ 0 → M i) → (b ≡ 0 → M (i + 1)) → (c ≡ 0 → M (i + 2)) → (d ≡ 0 → M (i + 3)) → bitOr (bitOr (bitOr a b) c) d ≡ 0

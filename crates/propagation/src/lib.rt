@@ -157,10 +157,14 @@ pub fn effect_of(a: Action, through: bool) -> Effect
 }
 
 // A clause of the state after an action, as a clause of the state before it: what the action changes is struck out, and
-// one that the action meets is met by every state.
+// one that the action meets is met by every state. That nothing changes is told first, for the leaves that are asked about the
+// state before the action.
 pub fn pulled(by: Effect, c: Clause) -> Clause
     ensures { λ r. ⌜ r ≡ pulledBy by c ⌝ }
 {
+    if by.add | by.gone | by.changed == 0 {
+        return c;
+    }
     if (c.positive & by.add != 0) | (c.negative & by.gone != 0) {
         return Clause {
             positive: 1,
