@@ -4,8 +4,10 @@ use reference::cost::{self, Cost};
 use reference::draft::sample;
 use reference::generate::limits::workload;
 use reference::generate::random::Random;
-use reference::generate::worst::{no_model, two_right_leaves, Left, Order};
+use reference::generate::worst::{busiest, no_model, two_right_leaves, Left, Order};
+use reference::layout::MAX_BYTES;
 use reference::shape::Method;
+use reference::Reply;
 
 #[test]
 fn listed_states_take_no_looks() {
@@ -53,4 +55,18 @@ fn the_usual_statement() {
     let mut looks = looks;
     looks.sort_unstable_by(|a, b| b.cmp(a));
     assert_eq!(found, looks);
+}
+
+#[test]
+fn the_busiest_file_fits() {
+    // Eight steps of the 2,048 are the sample's.
+    let bytes = busiest(Method::TwoCnf, 2040, 256, [256, 256]).encode();
+    assert!(bytes.len() <= MAX_BYTES, "{}", bytes.len());
+    let looks: u64 = cost::of(&bytes).expect("a layout").iter().map(|cost| cost.looks).sum();
+    assert_eq!(looks, 2040 * 256 * 3584 * (65 + 64 * 65 / 2 + 64 + 64 * 256 + 64 * 256 * 256));
+    // With fewer of each it is accepted.
+    for method in [Method::Horn, Method::TwoCnf] {
+        let bytes = busiest(method, 3, 2, [2, 3]).encode();
+        assert_eq!(reference::check(&bytes), Reply::Accepted);
+    }
 }

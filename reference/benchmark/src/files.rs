@@ -5,7 +5,7 @@ use reference::draft::{sample, step, Draft, DraftActions, DraftSet};
 use reference::generate::growth;
 use reference::generate::limits::{many_action_sets, many_state_sets, workload};
 use reference::generate::random::Random;
-use reference::generate::worst::{no_model, two_right_leaves, Left, Order};
+use reference::generate::worst::{busiest, no_model, two_right_leaves, Left, Order};
 use reference::layout::MAX_STATE_SETS;
 use reference::shape::Method;
 use reference::{Answer, Reply};
@@ -58,6 +58,11 @@ pub fn worst_cases() -> Vec<Timed> {
         for order in Order::ALL {
             all.extend(dearest(Left { written: 8, complements }, order));
         }
+    }
+    for (kind, method) in [("Horn", Method::Horn), ("two-literal", Method::TwoCnf)] {
+        let scaled = format!("1 of 2,040 such statements, 2 of 256 actions, {RIGHT_CLAUSES} of 256 clauses");
+        let draft = busiest(method, 1, 2, [RIGHT_CLAUSES, 256]);
+        all.push(Timed { scaled, ..Timed::accepted(format!("the busiest file, {kind}"), &draft) });
     }
     all.extend(doubling());
     all

@@ -91,7 +91,10 @@ fn worst_cases_are_as_large_as_they_say() {
         let chain = |file: &File| file.clauses[..left].iter().filter(|c| c.negative != 3 << 62).count();
         assert_eq!(three.iter().map(chain).collect::<Vec<usize>>(), [59 + 2, 59 + 2, 62 + 3]);
     }
-    assert_eq!((files[18].action_sets.len(), files[19].state_sets.len()), (256, 512));
+    for file in &files[18..20] {
+        assert_eq!((file.steps.len(), file.task.actions.len(), file.clauses.len()), (9, 2, 512 + right));
+    }
+    assert_eq!((files[20].action_sets.len(), files[21].state_sets.len()), (256, 512));
 }
 
 #[test]

@@ -53,16 +53,10 @@ impl Order {
 /// ends in a contradiction.
 pub fn two_right_leaves(method: Method, left: Left, order: Order, right: [usize; 2]) -> Draft {
     let mut d = base(0);
-    // Facts 0 to 59 are the chain; when its last is on, so is fact 60, and it is not.
-    let (end, torn, spare) = (59, 60, 61);
-    let links: Vec<Clause> = (0..end).map(|f| clause(&[f + 1], &[f])).collect();
-    let closing = [clause(&[torn], &[end]), clause(&[], &[torn, end])];
+    let (links, closing) = chain();
     let clauses = left_clauses(left, order, &links, &closing);
     let (inside, mut others) = left_entries(&mut d, method, left, &clauses);
-    // The first leaf fails where the spare fact is on, the second where the chain begins.
-    for (count, fact) in right.into_iter().zip([spare, 0]) {
-        others.push(add(&mut d, set(method, vec![clause(&[], &[fact]); count])));
-    }
+    others.extend(right_leaves(&mut d, method, right));
     let right = tree(&mut d, &others, DraftSet::Union);
     d.steps.insert(7, step(1, 1, &[inside, right], &[]));
     d
@@ -84,6 +78,40 @@ pub fn no_model(left: Left, order: Order, actions: usize) -> Draft {
     let right = tree(&mut d, &others, DraftSet::Union);
     d.steps.insert(7, step(2, 1, &[led, right], &[]));
     d
+}
+
+/// The file that keeps a checker busy longest, as far as we know: so many steps of B2 by so many
+/// actions, each with fourteen left leaves and two right ones with so many clauses. A leaf may be
+/// named again and again, so that one entry of open clauses stands for thirteen leaves.
+pub fn busiest(method: Method, steps: usize, actions: usize, right: [usize; 2]) -> Draft {
+    let mut d = base(actions);
+    d.actions.fill(Action::NOTHING);
+    let one = Left { written: 1, complements: 0 };
+    let (links, closing) = chain();
+    let chained = add(&mut d, set(method, left_clauses(one, Order::LastLeaf, &links, &closing)));
+    let open = add(&mut d, set(method, left_clauses(one, Order::LastLeaf, &[], &[])));
+    let inside = tree(&mut d, &[open, open, open, open, open, open, open, chained], DraftSet::Intersection);
+    let led = add(&mut d, DraftSet::Progression(inside, 0));
+    let mut others = vec![add(&mut d, DraftSet::Complement(open)); 6];
+    others.extend(right_leaves(&mut d, method, right));
+    let union = tree(&mut d, &others, DraftSet::Union);
+    let statements = vec![step(2, 1, &[led, union], &[]); steps];
+    d.steps.splice(7..7, statements);
+    d
+}
+
+/// The links of a chain of the facts 0 to 59, in its order, and what closes it: when its last fact is
+/// on, so is fact 60, and it is not.
+fn chain() -> (Vec<Clause>, [Clause; 2]) {
+    let (end, torn) = (59, 60);
+    let links = (0..end).map(|f| clause(&[f + 1], &[f])).collect();
+    (links, [clause(&[torn], &[end]), clause(&[], &[torn, end])])
+}
+
+/// The right leaves: the first fails where a spare fact is on, the second where the chain begins.
+fn right_leaves(d: &mut Draft, method: Method, right: [usize; 2]) -> [u16; 2] {
+    [(right[0], 61), (right[1], 0)]
+        .map(|(count, fact)| add(d, set(method, vec![clause(&[], &[fact]); count])))
 }
 
 /// The sample over 64 facts, with actions that do nothing up to so many.
