@@ -17,7 +17,7 @@ use Rattle.task.proofs.Tests.{holds, and-left, and-right}
 use Rattle.meaning.specs.declared.Clause.{Clause}
 use Rattle.task.specs.Inner.{has, noAction}
 use Rattle.propagation.specs.Clauses.{sameAs, onIn, clauseAt, clauseCount, metBy, pulled}
-use Rattle.propagation.proofs.OneFact.{neither}
+use Rattle.words.proofs.HitLaws.{neither}
 use Rattle.propagation.specs.declared.Effect.{Effect}
 use Rattle.propagation.specs.Propagation.{wordsAt, effectOf, pulledBy, Before}
 

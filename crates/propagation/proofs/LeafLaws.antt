@@ -12,7 +12,8 @@ use Rattle.task.specs.declared.Action.{Action}
 use Rattle.meaning.specs.declared.Clause.{Clause}
 use Rattle.propagation.specs.declared.Assignment.{Assignment}
 use Rattle.propagation.specs.Clauses.{clauseAt, clauseCount, overOld, leafClause, leafCount, OfLeaf, OfLeaves}
-use Rattle.propagation.specs.Propagation.{mask, acting, effectOf, pulledBy, wordsAt, Below, ofWords, ofKind, Misses, Passed, Roomy, Before, Opens}
+use Rattle.propagation.specs.Propagation.{mask, acting, effectOf, pulledBy, wordsAt, Below, ofWords, ofKind, Passed, Roomy, Before, Opens}
+use Rattle.words.specs.Words.{Misses}
 use Rattle.propagation.proofs.ClauseLaws.{pulled-missed, over-old}
 use Rattle.propagation.proofs.CodeLaws.{count-words, at-words, pulled-by}
 use Rattle.propagation.proofs.PassLaws.{passed-as}

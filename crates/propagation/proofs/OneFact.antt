@@ -6,7 +6,7 @@ use native.Mathlib.Omega.{arith}
 use native.Mathlib.Decide.{decLt}
 use native.Mathlib.Nat.{pow-suc, pos-of-ne-zero}
 use lib.Arith.{bin-ind}
-use lib.Bits.{bitAnd, bitOr, and-step, and-self, or-add-and, and-le-l, and-le-r}
+use lib.Bits.{bitAnd, and-step, and-self}
 use Rattle.task.specs.Facts.{without}
 use Rattle.task.proofs.Bits.{bit, bit-le, bit-none, bit-zero, bit-suc, bit-without, some-bit, same-bits}
 use Rattle.meaning.specs.Layout.{onesIn}
@@ -17,10 +17,6 @@ off-in e f = ap (bit f) e ∙ bit-none f
 
 pub on-in : (m : ℕ) → (m ≡ 0 → ⊥) → (f : ℕ) × (bit f m ≡ 1)
 on-in m h = some-bit m (pos-of-ne-zero h)
-
--- two masks are empty where all their facts together are none
-pub neither : (a b : ℕ) → bitOr a b ≡ 0 → (a ≡ 0) × (b ≡ 0)
-neither a b e = (omega (arith, or-add-and a b, and-le-l a b, and-le-r a b), omega (arith, or-add-and a b, and-le-l a b, and-le-r a b))
 
 -- ---- the mask of one fact
 

@@ -1,9 +1,9 @@
 -- A clause with no literal that fails anew stays settled, and so needs no look.
 -- Assumes nothing.
 use Prim.Native.Nat.{ℕ, _+_, _-_, _≤_, _<_, _^_}
-use mathlib.Core.Path.{_≡_, refl, sym, ap, ap₂, subst, _∙_}
+use mathlib.Core.Path.{_≡_, refl, sym, ap, subst}
 use mathlib.Core.Bool.{Bool, true, false, not, true≢false, _||_}
-use mathlib.Core.Logic.{_⊎_, inl, inr, _↔_}
+use mathlib.Core.Logic.{_⊎_, inl, inr}
 use mathlib.Core.List.{List}
 use native.Mathlib.Omega.{arith}
 use native.Mathlib.Decide.{decLt}
@@ -11,50 +11,16 @@ use native.Mathlib.Nat.{le-refl}
 use lib.Bits.{bitAnd, bitOr}
 use lib.Dec.{eqb}
 use Rattle.task.specs.Facts.{without}
-use Rattle.bytes.specs.Numbers.{turned8}
-use Rattle.bytes.proofs.TurnLaws.{clear8}
 use Rattle.task.proofs.Bits.{bit, bit-le, bit-none, bit-and, bit-or, bit-without}
 use Rattle.meaning.specs.declared.Clause.{Clause}
 use Rattle.propagation.specs.declared.Assignment.{Assignment}
 use Rattle.propagation.specs.declared.Effect.{Effect}
-use Rattle.propagation.specs.Propagation.{mask, failing, pulledBy, Only, Held, Wide, Quiet, Going, Grown, Looked, Passed, Misses, MissedAt, Spared, Untouched, Based, Below, ofWords, wordsAt}
-use Rattle.propagation.proofs.OneFact.{neither, bit-same}
+use Rattle.propagation.specs.Propagation.{mask, failing, pulledBy, Only, Held, Wide, Quiet, Going, Grown, Looked, Passed, Spared, Untouched, Based, Below, ofWords}
+use Rattle.words.specs.Words.{wordsAt, Misses, MissedAt}
+use Rattle.propagation.proofs.OneFact.{bit-same}
 use Rattle.propagation.proofs.PassLaws.{going-none, stays, quiet-any, looked-longer, passed-past}
 
 -- ---- what the test tells
-
--- of four in a row
-pub four-zero : (M : ℕ → Type 0) (i a b c d : ℕ) → (a ≡ 0 → M i) → (b ≡ 0 → M (i + 1)) → (c ≡ 0 → M (i + 2)) → (d ≡ 0 → M (i + 3)) → bitOr (bitOr (bitOr a b) c) d ≡ 0
-    → (j : ℕ) → i ≤ j → j < i + 4 → M j
-four-zero M i a b c d ha hb hc hd e j l h =
-    let z = neither (bitOr (bitOr a b) c) d e in
-    let y = neither (bitOr a b) c (z .0) in
-    let x = neither a b (y .0) in
-    elim (decLt j (i + 1)) [
-      | yes p ↦ subst M (omega arith) (ha (x .0))
-      | no p ↦ elim (decLt j (i + 2)) [
-        | yes q ↦ subst M (omega arith) (hb (x .1))
-        | no q ↦ elim (decLt j (i + 3)) [ yes r ↦ subst M (omega arith) (hc (y .1)) | no r ↦ subst M (omega arith) (hd (z .1)) ]
-      ]
-    ]
-
-pub missed-one : (M : ℕ → Type 0) (i : ℕ) → M i → (j : ℕ) → i ≤ j → j < i + 1 → M j
-missed-one M i m j l h = subst M (omega arith) m
-
--- up to k, and from there on
-pub missed-more : {M : ℕ → Type 0} {i k n : ℕ} → ((j : ℕ) → i ≤ j → j < k → M j) → ((j : ℕ) → k ≤ j → j < n → M j) → (j : ℕ) → i ≤ j → j < n → M j
-missed-more {M} {i} {k} {n} u v j l h = elim (decLt j k) [ yes p ↦ u j l p | no p ↦ v j (omega arith) h ]
-
--- what the bytes of a clause and of masks have in common, in either order
-pub hit-misses : {two : Bool} (p n off on : ℕ) → two ≡ true → p < 2 ^ 64 → n < 2 ^ 64 → off < 2 ^ 64 → on < 2 ^ 64
-    → (bitOr (bitAnd (turned8 p) (turned8 off)) (bitAnd (turned8 n) (turned8 on)) ≡ 0) ↔ Misses two off on (record { positive = p; negative = n })
-hit-misses p n off on s hp hn ho hi = (
-  (λ e. let z = neither (bitAnd (turned8 p) (turned8 off)) (bitAnd (turned8 n) (turned8 on)) e in ((λ t. clear8 p off hp ho .0 (z .0)), clear8 n on hn hi .0 (z .1))),
-  (λ m. ap₂ bitOr (clear8 p off hp ho .1 (m .0 s)) (clear8 n on hn hi .1 (m .1))),
-)
-
-pub hit-body : {two : Bool} (p n off on : ℕ) → two ≡ false → n < 2 ^ 64 → on < 2 ^ 64 → (bitAnd (turned8 n) (turned8 on) ≡ 0) ↔ Misses two off on (record { positive = p; negative = n })
-hit-body p n off on s hn hi = ((λ e. ((λ t. absurd (true≢false (sym t ∙ s))), clear8 n on hn hi .0 e)), (λ m. clear8 n on hn hi .1 (m .1)))
 
 spared-by : (s : Bool) (b x : Assignment) (c : Clause) → bitAnd (mask s c) (without (failing s x) (failing s b)) ≡ 0 → Spared s b x c
 spared-by s b x c e f h t =

@@ -12,8 +12,9 @@ use Rattle.task.specs.declared.Action.{Action}
 use Rattle.task.specs.Facts.{without}
 use Rattle.task.proofs.Bits.{bit}
 use Rattle.meaning.specs.declared.Clause.{Clause}
-use Rattle.bytes.specs.Numbers.{numberAt}
 use Rattle.meaning.specs.Layout.{hornRule, twoCnfRule}
+use Rattle.words.specs.Words.{Misses}
+unfoldable pub use Rattle.words.specs.Words.{wordsAt}
 use Rattle.propagation.specs.declared.Assignment.{Assignment}
 use Rattle.propagation.specs.declared.Effect.{Effect}
 use Rattle.propagation.specs.declared.Case.{Case}
@@ -54,10 +55,6 @@ pulledBy k c =
       | true ↦ record { positive = 1; negative = 1 }
       | false ↦ record { positive = without (c .positive) (k .changed); negative = without (c .negative) (k .changed) }
     ]
-
--- clause i of those that stand in the file from a place
-unfoldable pub wordsAt : List ℕ → ℕ → ℕ → Clause
-wordsAt bytes at i = record { positive = numberAt 8 bytes (at + 16 * i); negative = numberAt 8 bytes (at + 16 * i + 8) }
 
 -- a test tells whether there is an X
 pub record Tells (r : Bool) (X : Type 0) : Type 0 where
@@ -168,21 +165,6 @@ Spared s b x c = (f : ℕ) → bit f (mask s c) ≡ 1 → bit f (failing s x) �
 
 abbrev pub Untouched : Bool → Assignment → Assignment → Clause → Type 0
 Untouched two b x c = (two ≡ true → Spared true b x c) × Spared false b x c
-
--- the clause has no negative fact of the one mask and no positive one of the other, which is not asked where only Horn clauses matter
-abbrev pub Misses : Bool → ℕ → ℕ → Clause → Type 0
-Misses two off on c = (two ≡ true → bitAnd (c .positive) off ≡ 0) × (bitAnd (c .negative) on ≡ 0)
-
--- so do the clauses in the file from i up to k
-abbrev pub MissedAt : List ℕ → ℕ → Bool → ℕ → ℕ → ℕ → ℕ → Type 0
-MissedAt bytes at two off on i k = (j : ℕ) → i ≤ j → j < k → Misses two off on (wordsAt bytes at j)
-
--- r is the first clause from i on that does not, or the count
-pub record FirstHit (bytes : List ℕ) (at count : ℕ) (two : Bool) (off on i r : ℕ) : Type 0 where
-  pub from : i ≤ r
-  pub until : r ≤ count
-  pub past : MissedAt bytes at two off on i r
-  pub there : r < count → Misses two off on (wordsAt bytes at r) → ⊥
 
 -- the clause was settled at some time from b to x
 pub record Looked (two : Bool) (b x : Assignment) (c : Clause) : Type 0 where

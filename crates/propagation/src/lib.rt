@@ -1,19 +1,17 @@
 // Unit propagation over the clauses of leaves, for one action: what an assignment comes to know where each clause is to hold, until nothing
 // changes. Clauses are read from the file whenever they are looked at; none is kept.
-use bytes::turned;
-use bytes::u64_at;
-use bytes::u64_in;
-use bytes::u64_turned;
 use meaning::Clause;
 use task::Action;
+use words::next_hit;
+use words::words_at;
+use words::words_in;
 ghost use mathlib.Core.Path.{_≡_};
 ghost use mathlib.Core.Bool.{true, false};
-ghost use mathlib.Core.Logic.{_↔_};
 ghost use Prim.Native.Nat.{_+_, _-_, _*_, _<_, _≤_, _^_};
 ghost use lib.ListN.{length};
 ghost use Rattle.task.specs.Facts.{without};
 ghost use Rattle.propagation.specs.Clauses.{clauseAt, clauseCount, sameAs, onIn};
-ghost use Rattle.propagation.specs.Propagation.{acting, effectOf, pulledBy, wordsAt, Only, Below, ofWords, ofKind, LeafOf, LeftOf, Alike, Tells, Misses, MissedAt, FirstHit, Based, Passed, Solved, RoomAt, Roomy};
+ghost use Rattle.propagation.specs.Propagation.{acting, effectOf, pulledBy, Only, Below, ofWords, ofKind, LeafOf, LeftOf, Alike, Tells, Based, Passed, Solved, RoomAt, Roomy};
 
 // Facts known to be on and facts known to be off.
 pub struct Assignment {
@@ -72,29 +70,6 @@ fn on_in(m: u64, i: u32) -> Clause
     Clause {
         positive: bit,
         negative: bit,
-    }
-}
-
-// Clause i of those that stand in the file from a place.
-fn words_at(file: &[u8], at: u32, i: u32) -> Clause
-    ensures { λ r. ⌜ r ≡ wordsAt (now (file .entry)) at i ⌝ }
-{
-    let place = at as usize + 16 * (i as usize);
-    Clause {
-        positive: u64_at(file, place),
-        negative: u64_at(file, place + 8),
-    }
-}
-
-// The same, where the clause stands within the file.
-fn words_in(file: &[u8], at: u32, i: u32) -> Clause
-    requires { ⌜ at + 16 * i + 16 ≤ length (now file) ⌝ }
-    ensures { λ r. ⌜ r ≡ wordsAt (now (file .entry)) at i ⌝ }
-{
-    let place = at as usize + 16 * (i as usize);
-    Clause {
-        positive: u64_in(file, place),
-        negative: u64_in(file, place + 8),
     }
 }
 
@@ -220,63 +195,6 @@ fn unit(x: Assignment, c: Clause) -> Assignment
         }
     }
     x
-}
-
-// What a clause in the file has in common with masks, its bytes in the machine's order: 0 where that is nothing. Of a Horn
-// clause only the body is looked at.
-fn hit(file: &[u8], at: u32, i: u32, two: bool, off: u64, on: u64) -> u64
-    requires { ⌜ at + 16 * i + 16 ≤ length (now file) ⌝ }
-    ensures { λ r. ⌜ (r ≡ 0) ↔ Misses two off on (wordsAt (now (file .entry)) at i) ⌝ }
-{
-    let place = at as usize + 16 * (i as usize);
-    let n = u64_turned(file, place + 8);
-    if two {
-        let p = u64_turned(file, place);
-        return (p & turned(off)) | (n & turned(on));
-    }
-    n & turned(on)
-}
-
-// The same of four clauses.
-fn four_hit(file: &[u8], at: u32, i: u32, two: bool, off: u64, on: u64) -> u64
-    requires { ⌜ (i + 4 < 2 ^ 32) × (at + 16 * i + 64 ≤ length (now file)) ⌝ }
-    ensures { λ r. ⌜ (r ≡ 0 → MissedAt (now (file .entry)) at two off on i (i + 4)) ⌝ }
-{
-    let a = hit(file, at, i, two, off, on);
-    let b = hit(file, at, i + 1, two, off, on);
-    let c = hit(file, at, i + 2, two, off, on);
-    let d = hit(file, at, i + 3, two, off, on);
-    a | b | c | d
-}
-
-// Past clauses that miss masks, four at a time.
-fn past_fours(file: &[u8], at: u32, count: u32, i: u32, two: bool, off: u64, on: u64) -> u32
-    requires { ⌜ (i ≤ count) × (at + 16 * count ≤ length (now file)) ⌝ }
-    ensures { λ r. ⌜ (i ≤ r) × (r ≤ count) × MissedAt (now (file .entry)) at two off on i r ⌝ }
-{
-    let mut j = i;
-    while 4 <= count - j {
-        if four_hit(file, at, j, two, off, on) != 0 {
-            return j;
-        }
-        j += 4;
-    }
-    j
-}
-
-// The first clause from i on that has a fact in common with masks, or the count where none has.
-pub fn next_hit(file: &[u8], at: u32, count: u32, i: u32, two: bool, off: u64, on: u64) -> u32
-    requires { ⌜ (i ≤ count) × (at + 16 * count ≤ length (now file)) ⌝ }
-    ensures { λ r. ⌜ FirstHit (now (file .entry)) at count two off on i r ⌝ }
-{
-    let mut j = past_fours(file, at, count, i, two, off, on);
-    while j < count {
-        if hit(file, at, j, two, off, on) != 0 {
-            return j;
-        }
-        j += 1;
-    }
-    j
 }
 
 // A look at each clause that stands in the file.

@@ -1,12 +1,12 @@
--- `propagation::past_fours` meets its contract.
+-- `words::past_fours` meets its contract.
 -- Assumes nothing.
 use borrow.Author.Needs.{needs}
-use Rattle.propagation.proofs.RestLaws.{missed-more}
-use Rattle.propagation.specs.Propagation.{MissedAt}
+use Rattle.words.proofs.HitLaws.{missed-more}
+use Rattle.words.specs.Words.{MissedAt}
 use native.Mathlib.Omega.{arith}
 use Prim.Native.Nat.{_≤_, _-_}
-use Rattle.propagation.proofs.past_fours.Statement.{statement}
-use Rattle.propagation.proofs.past_fours.Tie as tie
+use Rattle.words.proofs.past_fours.Statement.{statement}
+use Rattle.words.proofs.past_fours.Tie as tie
 
 abbrev Inv-loop : tie.InvT-loop
 Inv-loop file at count i two off on j₀ j = (i ≤ j) × (j ≤ count) × MissedAt file at two off on i j

@@ -1,9 +1,9 @@
--- `propagation::words_at` meets its contract.
+-- `words::words_at` meets its contract.
 -- Assumes nothing.
-use Rattle.propagation.specs.Propagation.{wordsAt}
+use Rattle.words.specs.Words.{wordsAt}
 use borrow.Author.Needs.{needs}
-use Rattle.propagation.proofs.words_at.Statement.{statement}
-use Rattle.propagation.proofs.words_at.Tie as tie
+use Rattle.words.proofs.words_at.Statement.{statement}
+use Rattle.words.proofs.words_at.Tie as tie
 
 returns : tie.Need-returns
 unfolding wordsAt

@@ -1,12 +1,12 @@
--- `propagation::words_in` meets its contract.
+-- `words::words_in` meets its contract.
 -- Assumes nothing.
 use Prim.Native.Nat.{_+_, _*_}
 use mathlib.Core.Path.{sym, _∙_}
 use borrow.Author.Needs.{needs}
 use Rattle.bytes.proofs.ByteLaws.{number-in}
-use Rattle.propagation.specs.Propagation.{wordsAt}
-use Rattle.propagation.proofs.words_in.Statement.{statement}
-use Rattle.propagation.proofs.words_in.Tie as tie
+use Rattle.words.specs.Words.{wordsAt}
+use Rattle.words.proofs.words_in.Statement.{statement}
+use Rattle.words.proofs.words_in.Tie as tie
 
 returns : tie.Need-returns
 unfolding wordsAt

@@ -1,16 +1,16 @@
--- `bytes::turned` meets its contract.
+-- `words::turned_four` meets its contract.
 -- Assumes nothing.
 use borrow.Author.Needs.{needs}
-use Rattle.bytes.specs.Numbers.{turned8}
-use Rattle.bytes.proofs.turned.Statement.{statement}
-use Rattle.bytes.proofs.turned.Tie as tie
+use Rattle.words.specs.Words.{turned4}
+use Rattle.words.proofs.turned_four.Statement.{statement}
+use Rattle.words.proofs.turned_four.Tie as tie
 
 returns : tie.Need-returns
-unfolding turned8
+unfolding turned4
 returns c = search needs
 
-pub turned-spec : {M : Type 1} → statement M
-turned-spec =
+pub turned-four-spec : {M : Type 1} → statement M
+turned-four-spec =
     tie.close
     (tie.spec
     (λ c. search needs)

@@ -1,12 +1,12 @@
--- `propagation::next_hit` meets its contract.
+-- `words::next_hit` meets its contract.
 -- Assumes nothing.
 use borrow.Author.Needs.{needs}
-use Rattle.propagation.proofs.RestLaws.{missed-one, missed-more}
-use Rattle.propagation.specs.Propagation.{Misses, MissedAt, wordsAt}
+use Rattle.words.proofs.HitLaws.{missed-one, missed-more}
+use Rattle.words.specs.Words.{Misses, MissedAt, wordsAt}
 use native.Mathlib.Omega.{arith}
 use Prim.Native.Nat.{_≤_, _-_}
-use Rattle.propagation.proofs.next_hit.Statement.{statement}
-use Rattle.propagation.proofs.next_hit.Tie as tie
+use Rattle.words.proofs.next_hit.Statement.{statement}
+use Rattle.words.proofs.next_hit.Tie as tie
 
 abbrev Inv-loop : tie.InvT-loop
 Inv-loop file at count i two off on j₀ j = (i ≤ j) × (j ≤ count) × MissedAt file at two off on i j

@@ -1,16 +1,16 @@
--- `bytes::turned_four` meets its contract.
+-- `words::turned` meets its contract.
 -- Assumes nothing.
 use borrow.Author.Needs.{needs}
-use Rattle.bytes.specs.Numbers.{turned4}
-use Rattle.bytes.proofs.turned_four.Statement.{statement}
-use Rattle.bytes.proofs.turned_four.Tie as tie
+use Rattle.words.specs.Words.{turned8}
+use Rattle.words.proofs.turned.Statement.{statement}
+use Rattle.words.proofs.turned.Tie as tie
 
 returns : tie.Need-returns
-unfolding turned4
+unfolding turned8
 returns c = search needs
 
-pub turned-four-spec : {M : Type 1} → statement M
-turned-four-spec =
+pub turned-spec : {M : Type 1} → statement M
+turned-spec =
     tie.close
     (tie.spec
     (λ c. search needs)

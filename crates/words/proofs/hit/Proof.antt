@@ -1,13 +1,13 @@
--- `propagation::hit` meets its contract.
+-- `words::hit` meets its contract.
 -- Assumes nothing.
 use borrow.Author.Needs.{needs}
 use Prim.Native.Nat.{_+_, _*_}
 use Rattle.bytes.specs.Numbers.{numberAt}
 use Rattle.bytes.proofs.ByteLaws.{number-in}
-use Rattle.propagation.proofs.RestLaws.{hit-misses, hit-body}
-use Rattle.propagation.specs.Propagation.{wordsAt}
-use Rattle.propagation.proofs.hit.Statement.{statement}
-use Rattle.propagation.proofs.hit.Tie as tie
+use Rattle.words.proofs.HitLaws.{hit-misses, hit-body}
+use Rattle.words.specs.Words.{wordsAt}
+use Rattle.words.proofs.hit.Statement.{statement}
+use Rattle.words.proofs.hit.Tie as tie
 
 returns : tie.Need-returns
 unfolding wordsAt

@@ -1,10 +1,10 @@
--- `bytes::two_turned` meets its contract.
+-- `words::two_turned` meets its contract.
 -- Assumes nothing.
 use borrow.Author.Needs.{needs}
 use native.Mathlib.Omega.{arith}
-use Rattle.bytes.specs.Numbers.{turned2}
-use Rattle.bytes.proofs.two_turned.Statement.{statement}
-use Rattle.bytes.proofs.two_turned.Tie as tie
+use Rattle.words.specs.Words.{turned2}
+use Rattle.words.proofs.two_turned.Statement.{statement}
+use Rattle.words.proofs.two_turned.Tie as tie
 
 returns : tie.Need-returns
 unfolding turned2

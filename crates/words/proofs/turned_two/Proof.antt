@@ -1,9 +1,9 @@
--- `bytes::turned_two` meets its contract.
+-- `words::turned_two` meets its contract.
 -- Assumes nothing.
 use borrow.Author.Needs.{needs}
-use Rattle.bytes.specs.Numbers.{turned2}
-use Rattle.bytes.proofs.turned_two.Statement.{statement}
-use Rattle.bytes.proofs.turned_two.Tie as tie
+use Rattle.words.specs.Words.{turned2}
+use Rattle.words.proofs.turned_two.Statement.{statement}
+use Rattle.words.proofs.turned_two.Tie as tie
 
 returns : tie.Need-returns
 unfolding turned2

@@ -7,7 +7,7 @@ use native.Mathlib.Omega.{arith}
 use native.Mathlib.Nat.{mod-lt}
 use lib.Bits.{bitAnd, and-block}
 use lib.Pow.{pow-pos, split}
-use Rattle.bytes.specs.Numbers.{turned2, turned4, turned8}
+use Rattle.words.specs.Words.{turned2, turned4, turned8}
 
 -- two halves of k bits change places, and T is done to each
 module _ (k : ℕ) (T : ℕ → ℕ) (room : (z : ℕ) → z < 2 ^ k → T z < 2 ^ k) (clear : (x y : ℕ) → x < 2 ^ k → y < 2 ^ k → (bitAnd (T x) (T y) ≡ 0) ↔ (bitAnd x y ≡ 0))

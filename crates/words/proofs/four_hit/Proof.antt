@@ -1,10 +1,10 @@
--- `propagation::four_hit` meets its contract.
+-- `words::four_hit` meets its contract.
 -- Assumes nothing.
 use borrow.Author.Needs.{needs}
-use Rattle.propagation.proofs.RestLaws.{four-zero}
-use Rattle.propagation.specs.Propagation.{Misses, wordsAt}
-use Rattle.propagation.proofs.four_hit.Statement.{statement}
-use Rattle.propagation.proofs.four_hit.Tie as tie
+use Rattle.words.proofs.HitLaws.{four-zero}
+use Rattle.words.specs.Words.{Misses, wordsAt}
+use Rattle.words.proofs.four_hit.Statement.{statement}
+use Rattle.words.proofs.four_hit.Tie as tie
 
 returns : tie.Need-returns
 returns c =

@@ -1,12 +1,12 @@
--- `bytes::u64_turned` meets its contract.
+-- `words::u64_turned` meets its contract.
 -- Assumes nothing.
 use borrow.Author.Needs.{needs}
 use native.Mathlib.Omega.{arith}
 use mathlib.Core.Path.{_∙_}
 use Rattle.bytes.proofs.ByteLaws.{number-cat}
-use Rattle.bytes.proofs.TurnLaws.{turn-eight}
-use Rattle.bytes.proofs.u64_turned.Statement.{statement}
-use Rattle.bytes.proofs.u64_turned.Tie as tie
+use Rattle.words.proofs.TurnLaws.{turn-eight}
+use Rattle.words.proofs.u64_turned.Statement.{statement}
+use Rattle.words.proofs.u64_turned.Tie as tie
 
 returns : tie.Need-returns
 returns c =

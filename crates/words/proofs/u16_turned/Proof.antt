@@ -1,9 +1,9 @@
--- `bytes::u16_turned` meets its contract.
+-- `words::u16_turned` meets its contract.
 -- Assumes nothing.
 use borrow.Author.Needs.{needs}
 use Rattle.bytes.proofs.ByteLaws.{number-two}
-use Rattle.bytes.proofs.u16_turned.Statement.{statement}
-use Rattle.bytes.proofs.u16_turned.Tie as tie
+use Rattle.words.proofs.u16_turned.Statement.{statement}
+use Rattle.words.proofs.u16_turned.Tie as tie
 
 returns : tie.Need-returns
 returns c =

@@ -1,0 +1,2 @@
+pub mod TurnLaws
+pub mod HitLaws

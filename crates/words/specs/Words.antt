@@ -1,0 +1,38 @@
+-- Clauses in the file, and those of them that have a fact in common with masks. Only the code's inner promises speak of this.
+-- Assumes nothing.
+use mathlib.Core.Path.{_≡_}
+use mathlib.Core.Bool.{Bool, true}
+use mathlib.Core.List.{List}
+use Prim.Native.Nat.{ℕ, _+_, _*_, _/_, _%_, _≤_, _<_}
+use lib.Bits.{bitAnd}
+use Rattle.meaning.specs.declared.Clause.{Clause}
+use Rattle.bytes.specs.Numbers.{numberAt}
+
+-- clause i of those that stand in the file from a place
+unfoldable pub wordsAt : List ℕ → ℕ → ℕ → Clause
+wordsAt bytes at i = record { positive = numberAt 8 bytes (at + 16 * i); negative = numberAt 8 bytes (at + 16 * i + 8) }
+
+-- the bytes of a number in the other order: two, four and eight
+unfoldable pub turned2 : ℕ → ℕ
+turned2 x = x % 256 * 256 + x / 256
+
+unfoldable pub turned4 : ℕ → ℕ
+turned4 x = turned2 (x % 65536) * 65536 + turned2 (x / 65536)
+
+unfoldable pub turned8 : ℕ → ℕ
+turned8 x = turned4 (x % 4294967296) * 4294967296 + turned4 (x / 4294967296)
+
+-- the clause has no negative fact of the one mask and no positive one of the other, which is not asked where only Horn clauses matter
+abbrev pub Misses : Bool → ℕ → ℕ → Clause → Type 0
+Misses two off on c = (two ≡ true → bitAnd (c .positive) off ≡ 0) × (bitAnd (c .negative) on ≡ 0)
+
+-- so do the clauses in the file from i up to k
+abbrev pub MissedAt : List ℕ → ℕ → Bool → ℕ → ℕ → ℕ → ℕ → Type 0
+MissedAt bytes at two off on i k = (j : ℕ) → i ≤ j → j < k → Misses two off on (wordsAt bytes at j)
+
+-- r is the first clause from i on that does not, or the count
+pub record FirstHit (bytes : List ℕ) (at count : ℕ) (two : Bool) (off on i r : ℕ) : Type 0 where
+  pub from : i ≤ r
+  pub until : r ≤ count
+  pub past : MissedAt bytes at two off on i r
+  pub there : r < count → Misses two off on (wordsAt bytes at r) → ⊥
