@@ -1,7 +1,7 @@
 -- The code's tests on kinds and masks, as what the definitions say.
 -- Assumes nothing.
 use Prim.Native.Nat.{ℕ, zero, suc, _+_, _*_, _/_, _%_, _≤_, _<_, _^_}
-use mathlib.Core.Path.{_≡_, refl, ap, ap₂, _∙_}
+use mathlib.Core.Path.{_≡_, refl, ap, _∙_}
 use mathlib.Core.Bool.{Bool, true, false, not, _&&_, _||_}
 use mathlib.Core.List.{List}
 use native.Mathlib.Omega.{arith}
@@ -13,7 +13,7 @@ use lib.ListN.{getD}
 use borrow.Author.Tests.{eq-eqb, ne-eqb}
 use Rattle.task.specs.declared.Action.{Action}
 use Rattle.task.specs.Facts.{without}
-use Rattle.task.proofs.Tests.{holds, and-left, and-right}
+use Rattle.task.proofs.Tests.{holds}
 use Rattle.meaning.specs.declared.Clause.{Clause}
 use Rattle.task.specs.Inner.{has, noAction}
 use Rattle.propagation.specs.Clauses.{sameAs, onIn, clauseAt, clauseCount, metBy, pulled}
@@ -107,12 +107,6 @@ module _ (k : Effect) (c : Clause) where
       apart m q = ap (bitAnd m) q ∙ and-zero-r m
 
 -- ---- tests that several words pass
-
-pub same-clause : (c d : Clause) → T (eqb (c .positive) (d .positive) && eqb (c .negative) (d .negative)) → c ≡ d
-same-clause c d t =
-    let b = eqb (c .positive) (d .positive) in
-    let b′ = eqb (c .negative) (d .negative) in
-    ap₂ (λ (p n : ℕ). record { positive = p; negative = n }) (eqb→eq (c .positive) (d .positive) (and-left b b′ t)) (eqb→eq (c .negative) (d .negative) (and-right b b′ t))
 
 four : (a b c d : Bool) → T (((a && b) && c) && not d) → T a × T b × T c × (d ≡ false)
 four true true true true t = absurd t

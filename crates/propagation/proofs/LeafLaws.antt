@@ -66,7 +66,7 @@ words-leaf bytes init goal a leaves j l c p =
     (p .0, subst (λ (k : ℕ). p .0 < k) (sym (count-words _ _ l)) (p .1), p .2 ∙ ap (pulledBy (effectOf _)) (sym (at-words bytes init goal _ _ (p .0) l)))
 
 -- a clause of a left leaf that is asked about the state before the action is a left clause as it stands
-pub before-left : (bytes : List ℕ) (init goal : ℕ) (a : Action) (leaves : List ℕ) (m kind at count i : ℕ)
+before-left : (bytes : List ℕ) (init goal : ℕ) (a : Action) (leaves : List ℕ) (m kind at count i : ℕ)
     → Before leaves m kind at count → i < clauseCount kind count → OfLeaves bytes init goal a leaves m (clauseAt bytes init goal kind at i)
 unfolding leafCount leafClause overOld
 before-left bytes init goal a leaves m kind at count i (j, l, k, p, n, off) h =

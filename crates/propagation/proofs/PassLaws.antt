@@ -1,9 +1,9 @@
 -- Looks at clauses put together: one after the other, up to a conflict, and again until nothing changes.
 -- Assumes nothing.
-use Prim.Native.Nat.{ℕ, _+_, _≤_, _<_, _^_}
+use Prim.Native.Nat.{ℕ, _+_, _≤_, _<_}
 use mathlib.Core.Path.{_≡_, refl, sym, ap, subst, _∙_}
 use mathlib.Core.Bool.{Bool, true, false, not, _&&_, _||_, true≢false}
-use mathlib.Core.Logic.{_⊎_, inl, inr}
+use mathlib.Core.Logic.{inl, inr}
 use native.Mathlib.Omega.{arith}
 use native.Mathlib.Decide.{decLt}
 use native.Mathlib.Nat.{le-refl, le-trans}
@@ -100,7 +100,7 @@ pub looked-longer : {two : Bool} {a b x y : Assignment} {c : Clause} → Grown a
 looked-longer g h l = record { seen = l .seen; after = λ s f. le-trans (g s f) (l .after s f); until = λ s f. le-trans (l .until s f) (h s f); settled = l .settled }
 
 -- it is settled now where nothing changed since
-pub looked-settled : {two : Bool} {x r : Assignment} {c : Clause} → Alike two x r → Looked two x r c → Quiet two r c
+looked-settled : {two : Bool} {x r : Assignment} {c : Clause} → Alike two x r → Looked two x r c → Quiet two r c
 looked-settled {two} {x} {r} {c} e l = stays (l .seen) r c two (l .until) ((λ t f _ o. since false f (ap (bit f) (e .1 t)) o), (λ f _ o. since true f (ap (bit f) (e .0)) o)) (l .settled)
   where
     since : (b : Bool) (f : ℕ) → bit f (holding b x) ≡ bit f (holding b r) → bit f (holding b r) ≡ 1 → bit f (holding b (l .seen)) ≡ 1

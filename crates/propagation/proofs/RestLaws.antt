@@ -1,6 +1,6 @@
 -- A clause with no literal that fails anew stays settled, and so needs no look.
 -- Assumes nothing.
-use Prim.Native.Nat.{ℕ, _+_, _-_, _≤_, _<_, _^_}
+use Prim.Native.Nat.{ℕ, _-_, _≤_, _<_, _^_}
 use mathlib.Core.Path.{_≡_, refl, sym, ap, subst}
 use mathlib.Core.Bool.{Bool, true, false, not, true≢false, _||_}
 use mathlib.Core.Logic.{_⊎_, inl, inr}
@@ -8,10 +8,10 @@ use mathlib.Core.List.{List}
 use native.Mathlib.Omega.{arith}
 use native.Mathlib.Decide.{decLt}
 use native.Mathlib.Nat.{le-refl}
-use lib.Bits.{bitAnd, bitOr}
+use lib.Bits.{bitAnd}
 use lib.Dec.{eqb}
 use Rattle.task.specs.Facts.{without}
-use Rattle.task.proofs.Bits.{bit, bit-le, bit-none, bit-and, bit-or, bit-without}
+use Rattle.task.proofs.Bits.{bit, bit-le, bit-none, bit-and, bit-without}
 use Rattle.meaning.specs.declared.Clause.{Clause}
 use Rattle.propagation.specs.declared.Assignment.{Assignment}
 use Rattle.propagation.specs.declared.Effect.{Effect}
@@ -77,7 +77,7 @@ pulled-stays two k b x w g u = go (not (eqb (bitAnd (w .positive) (k .add)) 0) |
     go false h = stays b x less two g ((λ e. fewer true (u .0 e)), fewer false (u .1)) h
 
 -- a clause that is not looked at
-pub passed-rest : {two : Bool} (k : Effect) (b x : Assignment) (w : Clause) → Untouched two b x w → Looked two b x (pulledBy k w) → Passed two (Only (pulledBy k w)) x x
+passed-rest : {two : Bool} (k : Effect) (b x : Assignment) (w : Clause) → Untouched two b x w → Looked two b x (pulledBy k w) → Passed two (Only (pulledBy k w)) x x
 passed-rest {two} k b x w u l =
     record {
       goes = going-none _ x;
