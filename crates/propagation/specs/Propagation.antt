@@ -134,7 +134,7 @@ abbrev pub Horn : Clause → Type 0
 Horn c = (f g : ℕ) → f < 64 → g < 64 → bit f (c .positive) ≡ 1 → bit g (c .positive) ≡ 1 → f ≡ g
 
 -- nothing follows from the clause: one literal holds, or two are open. Where only Horn clauses matter (`two` is false), it is
--- enough that the body is not all on, whatever is known of the head
+-- enough that the body is not all on, whatever is known of the head; of a clause that is not Horn nothing is said then
 abbrev pub Quiet : Bool → Assignment → Clause → Type 0
 Quiet true x c = Held x c ⊎ Wide x c
 Quiet false x c = Horn c → Held x c ⊎ Waiting x c

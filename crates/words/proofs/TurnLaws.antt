@@ -1,4 +1,4 @@
--- Numbers whose bytes are turned: two have a bit in common where they had one before.
+-- Numbers whose bytes are turned: two have a bit in common just where they had one before.
 -- Assumes nothing.
 use mathlib.Core.Path.{_≡_, sym, ap₂, _∙_}
 use mathlib.Core.Logic.{_↔_}

@@ -22,15 +22,16 @@ turned4 x = turned2 (x % 65536) * 65536 + turned2 (x / 65536)
 unfoldable pub turned8 : ℕ → ℕ
 turned8 x = turned4 (x % 4294967296) * 4294967296 + turned4 (x / 4294967296)
 
--- the clause has no negative fact of the one mask and no positive one of the other, which is not asked where only Horn clauses matter
+-- the clause has no negative fact of the mask `on` and no positive fact of the mask `off`; where only Horn clauses matter (`two` is
+-- false), the latter is not asked
 abbrev pub Misses : Bool → ℕ → ℕ → Clause → Type 0
 Misses two off on c = (two ≡ true → bitAnd (c .positive) off ≡ 0) × (bitAnd (c .negative) on ≡ 0)
 
--- so do the clauses in the file from i up to k
+-- each of the clauses in the file from i up to k misses the masks
 abbrev pub MissedAt : List ℕ → ℕ → Bool → ℕ → ℕ → ℕ → ℕ → Type 0
 MissedAt bytes at two off on i k = (j : ℕ) → i ≤ j → j < k → Misses two off on (wordsAt bytes at j)
 
--- r is the first clause from i on that does not, or the count
+-- r is the first clause from i on that does not miss them, or the count where there is none
 pub record FirstHit (bytes : List ℕ) (at count : ℕ) (two : Bool) (off on i r : ℕ) : Type 0 where
   pub from : i ≤ r
   pub until : r ≤ count
