@@ -1,0 +1,4 @@
+pub mod Lists
+pub mod LeafLaws
+pub mod Moved
+pub mod Reduced

@@ -1,0 +1,3 @@
+pub mod PackLaws
+pub mod ListLaws
+pub mod KnownLeaves

@@ -1,0 +1,68 @@
+-- `leaves::packed` meets its contract: no part of the word reaches into another.
+-- Assumes nothing.
+use mathlib.Core.Path.{_≡_, ap, _∙_}
+use Prim.Native.Nat.{_≤_}
+use native.Mathlib.Omega.{arith}
+use Rattle.certificate.specs.declared.Span.{Span}
+use borrow.Author.Needs.{needs}
+use Rattle.leaves.proofs.PackLaws.{kind-le, flag-le, unpacked-is}
+use Rattle.leaves.proofs.packed.Statement.{statement}
+use Rattle.leaves.proofs.packed.Tie as tie
+
+mul-result-2 : tie.Need-mul-result-2
+mul-result-2 c = let b = flag-le (c .before .before .before .args .x .after) in let e = c .flag .ensures in omega arith
+
+add-result : tie.Need-add-result
+add-result c =
+    let s = c .before .before .before .args .x in
+    let b = flag-le (s .after) in
+    let e = c .flag .ensures in
+    let k = kind-le (s .set) in
+    let f = c .before .kind-of .ensures in
+    omega arith
+
+add-result-2 : tie.Need-add-result-2
+add-result-2 c =
+    let s = c .before .before .before .before .args .x in
+    let b = flag-le (s .after) in
+    let e = c .before .flag .ensures in
+    let k = kind-le (s .set) in
+    let f = c .before .before .kind-of .ensures in
+    omega arith
+
+add-result-3 : tie.Need-add-result-3
+add-result-3 c =
+    let s = c .before .before .before .before .before .args .x in
+    let b = flag-le (s .after) in
+    let e = c .before .before .flag .ensures in
+    let k = kind-le (s .set) in
+    let f = c .before .before .before .kind-of .ensures in
+    omega arith
+
+returns : tie.Need-returns
+returns c =
+    let s = c .before .before .before .before .before .args .x in
+    let e = c .before .before .flag .ensures in
+    let f = c .before .before .before .kind-of .ensures in
+    let i = c .before .before .before .before .items-of .ensures in
+    let many = ap (λ (q : Span). q .count) i in
+    let place = ap (λ (q : Span). q .at) i in
+    unpacked-is s _ (omega arith) (omega arith) (omega arith)
+
+pub packed-spec : {M : Type 1} → statement M
+packed-spec =
+    tie.close
+    (tie.spec
+    (λ c κs. search needs)
+    (λ c κs. search needs)
+    (λ c κs. search needs)
+    (λ c. search needs)
+    (λ c. search needs)
+    mul-result-2
+    add-result
+    (λ c. search needs)
+    (λ c. search needs)
+    add-result-2
+    (λ c. search needs)
+    add-result-3
+    returns)

@@ -1,0 +1,49 @@
+-- Which states a leaf's set holds, by the bytes of the file. Only the code's inner promises speak of this.
+-- Assumes nothing.
+use Prim.Native.Nat.{ℕ, zero, suc, _+_, _*_, _≤_}
+use mathlib.Core.Bool.{Bool, false}
+use mathlib.Core.List.{List, [], _∷_}
+use lib.ListN.{length}
+use Rattle.task.specs.declared.Ends.{Ends}
+use Rattle.task.specs.Inner.{atInit, atGoal}
+use Rattle.task.specs.Reach.{member}
+use Rattle.bytes.specs.Numbers.{numberAt}
+use Rattle.meaning.specs.Writing.{Ascending}
+use Rattle.meaning.specs.Sets.{allBelow, meets}
+use Rattle.words.specs.Words.{wordsAt}
+use Rattle.certificate.specs.declared.Span.{Span}
+use Rattle.certificate.specs.declared.BasicEntry.{BasicEntry}
+use Rattle.certificate.specs.declared.BasicEntry.the-variants.{Empty, Init, Goal, Explicit, Horn, TwoCnf}
+
+-- `count` states of 8 bytes from place `at`
+unfoldable pub statesAt : List ℕ → ℕ → ℕ → List ℕ
+statesAt bytes at zero = []
+statesAt bytes at (suc k) = numberAt 8 bytes at ∷ statesAt bytes (at + 8) k
+
+-- they stand within the file, and ascend
+pub record InOrder (bytes : List ℕ) (at count : ℕ) : Type 0 where
+  pub inside : at + 8 * count ≤ length bytes
+  pub ascend : Ascending 0 (statesAt bytes at count)
+
+module _ (bytes : List ℕ) (ends : Ends) where
+  -- state s meets each clause of a span
+  unfoldable pub meetsAll : Span → ℕ → Bool
+  meetsAll x s = allBelow (x .count) (λ i. meets s (wordsAt bytes (x .at) i))
+
+  -- a set holds state s: none, the start, the forbidden states, listed states, and states that meet each clause
+  unfoldable pub setHolds : BasicEntry → ℕ → Bool
+  setHolds Empty s = false
+  setHolds Init s = atInit ends s
+  setHolds Goal s = atGoal ends s
+  setHolds (Explicit x) s = member s (statesAt bytes (x .at) (x .count))
+  setHolds (Horn x) s = meetsAll x s
+  setHolds (TwoCnf x) s = meetsAll x s
+
+-- a set's listed states are in order; its clauses stand within the file
+abbrev pub Orderly : List ℕ → BasicEntry → Type 0
+Orderly bytes Empty = Unit {0}
+Orderly bytes Init = Unit {0}
+Orderly bytes Goal = Unit {0}
+Orderly bytes (Explicit x) = InOrder bytes (x .at) (x .count)
+Orderly bytes (Horn x) = x .at + 16 * x .count ≤ length bytes
+Orderly bytes (TwoCnf x) = x .at + 16 * x .count ≤ length bytes
