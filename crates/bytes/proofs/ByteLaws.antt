@@ -39,6 +39,10 @@ pub number-in : (k : ℕ) (f : List ℕ) (p : ℕ) → p + k ≤ length f → nu
 unfolding numberAt
 number-in k f p h = ap (λ (b : Bool). elim b [ true ↦ number k f p | false ↦ 0 ]) (inside-in k f p h)
 
+-- a number read where its bytes are
+pub read-in : (k : ℕ) (f : List ℕ) (p : ℕ) {x : ℕ} → p + k ≤ length f → x ≡ number k f p → x ≡ numberAt k f p
+read-in k f p h e = e ∙ sym (number-in k f p h)
+
 pub number-past : (k : ℕ) (f : List ℕ) (p : ℕ) → length f < p + k → numberAt k f p ≡ 0
 unfolding numberAt
 number-past k f p h = ap (λ (b : Bool). elim b [ true ↦ number k f p | false ↦ 0 ]) (inside-past k f p h)
@@ -51,7 +55,8 @@ unfolding bigEndian
 weight a [] = omega arith
 weight a (x ∷ xs) =
     let P : ℕ = 256 ^ length xs in
-    let e : a * 256 * P ≡ a * 256 ^ suc (length xs) = mul-assoc a 256 P ∙ ap (λ (n : ℕ). a * n) (mul-comm 256 P ∙ sym (pow-suc 256 (length xs))) in
+    let e : a * 256 * P ≡ a * 256 ^ suc (length xs) = mul-assoc a 256 P
+    ∙ ap (λ (n : ℕ). a * n) (mul-comm 256 P ∙ sym (pow-suc 256 (length xs))) in
     omega (arith, weight (a * 256 + x) xs, weight (0 + x) xs, add-mul (a * 256) x P, add-mul 0 x P, e)
 
 append : (a : ℕ) (xs ys : List ℕ) → bigEndian a (xs ++ ys) ≡ bigEndian (bigEndian a xs) ys

@@ -3,10 +3,10 @@
 use Prim.Native.Nat.{ℕ}
 use mathlib.Core.List.{List, [], _∷_}
 use lib.ListN.{getD}
-use Rattle.numbers.specs.declared.Rule.{Rule}
+use Rattle.numbers.specs.declared.RuleNumber.{RuleNumber}
 
 -- of 0, which is no rule, and of the rules 1 to 28
-unfoldable pub ruleTable : List Rule
+unfoldable pub ruleTable : List RuleNumber
 ruleTable =
     (0, 0) ∷ (0, 1) ∷ (0, 1) ∷ (0, 1) ∷ (0, 1) ∷ (0, 2)
     ∷ (0, 0) ∷ (2, 0) ∷ (2, 0) ∷ (3, 0) ∷ (3, 0) ∷ (3, 0) ∷ (3, 0) ∷ (1, 3) ∷ (1, 3)
@@ -16,5 +16,5 @@ ruleTable =
 unfoldable pub premisesOf : ℕ → ℕ
 premisesOf n = getD ruleTable n (0, 0) .0
 
-unfoldable pub judgementOf : ℕ → ℕ
-judgementOf n = getD ruleTable n (0, 0) .1
+unfoldable pub judgementKindOf : ℕ → ℕ
+judgementKindOf n = getD ruleTable n (0, 0) .1

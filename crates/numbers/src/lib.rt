@@ -1,10 +1,10 @@
 // The rules' numbers, premise counts and judgement kinds.
 ghost use mathlib.Core.Path.{_≡_};
 ghost use Prim.Native.Nat.{_*_, _/_, _%_, _^_, _<_, _≤_};
-ghost use Rattle.numbers.specs.Numbers.{premisesOf, judgementOf};
+ghost use Rattle.numbers.specs.Numbers.{premisesOf, judgementKindOf};
 
-// What a rule of document 01's list carries beside its number: its premise count and its judgement kind.
-pub struct Rule(pub u8, pub u8);
+// A rule of document 01's list by its number: its premise count and its judgement kind.
+pub struct RuleNumber(pub u8, pub u8);
 
 // The premise counts of 0, which is no rule, and of the rules 1 to 28, two bits each, the lowest first; and their judgement kinds.
 // One word is read faster than a table.
@@ -23,7 +23,7 @@ fn two_bits(word: u64, number: u8) -> u8
     }
 }
 
-impl Rule {
+impl RuleNumber {
     pub const B1: u8 = 1;
 
     pub const B2: u8 = 2;
@@ -89,7 +89,7 @@ impl Rule {
 
     // The judgement kind that a rule gives; 0 for a number that names none.
     pub fn judgement(number: u8) -> u8
-        ensures { λ r. ⌜ r ≡ judgementOf number ⌝ }
+        ensures { λ r. ⌜ r ≡ judgementKindOf number ⌝ }
     {
         two_bits(JUDGEMENTS, number)
     }

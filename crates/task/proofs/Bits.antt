@@ -11,12 +11,9 @@ use lib.Bits.{bitAnd, bitOr, and-step, or-step, and-shr, or-shr, or-lt, and-le-l
 use lib.Dec.{T, eqb→eq}
 use Rattle.task.specs.Facts.{allOn, without}
 use Rattle.task.specs.Task.{after}
+use Rattle.task.specs.Inner.{bit}
 use Rattle.task.specs.declared.Action.{Action}
 use Rattle.task.proofs.Tests.{same}
-
--- 1 where fact f is on in m, 0 where it is off
-unfoldable pub bit : ℕ → ℕ → ℕ
-bit f m = m / 2 ^ f % 2
 
 pub bit-le : (f m : ℕ) → bit f m ≤ 1
 unfolding bit

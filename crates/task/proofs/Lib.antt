@@ -1,5 +1,7 @@
 pub mod Tests
 pub mod Bits
+pub mod Names
 pub mod Moves
 pub mod Sorted
 pub mod Closure
+pub mod MaskLaws

@@ -43,7 +43,8 @@ pub next-cases : (a : Action) (s : ℕ) → (T (applies a s) × (next a s ≡ af
 unfolding next
 next-cases a s = go (applies a s)
   where
-    go : (b : Bool) → (T b × (_≡_ {A = ℕ} (elim b [ true ↦ after a s | false ↦ s ]) (after a s))) ⊎ (_≡_ {A = ℕ} (elim b [ true ↦ after a s | false ↦ s ]) s)
+    go : (b : Bool) → (T b × (_≡_ {A = ℕ} (elim b [ true ↦ after a s | false ↦ s ]) (after a s))) ⊎
+        (_≡_ {A = ℕ} (elim b [ true ↦ after a s | false ↦ s ]) s)
     go true = inl (tt, refl)
     go false = inr refl
 
@@ -81,9 +82,25 @@ module _ (t : Task) where
       ]
   passed (i ∷ is) s x q m =
       elim (member-cases x s _ m) [
-        | inl e ↦ record { before = []; rest = i ∷ is; before-in = tt; rest-in = q; reached = sym e; ends = ap (λ (y : ℕ). run t y (i ∷ is)) e }
+        | inl e ↦ record {
+          before = [];
+          rest = i ∷ is;
+          before-in = tt;
+          rest-in = q;
+          reached = sym e;
+          ends =
+              ap (λ (y : ℕ). run t y (i ∷ is)) e;
+        }
         | inr k ↦ (let p = passed is (next (actionAt t i) s) x (q .1) k in
-            record { before = i ∷ p .before; rest = p .rest; before-in = (q .0, p .before-in); rest-in = p .rest-in; reached = p .reached; ends = p .ends })
+            record {
+              before = i ∷ p .before;
+              rest = p .rest;
+              before-in = (q .0, p .before-in);
+              rest-in = p .rest-in;
+              reached =
+                  p .reached;
+              ends = p .ends;
+            })
       ]
 
 -- ---- to pass no goal state is to lead to none
@@ -156,8 +173,14 @@ reach-init t s h = (s, [], h, tt, refl)
 
 pub reach-next : (t : Task) (s : ℕ) → Reachable t s → (i : ℕ) → i < length (t .actions) → Reachable t (next (actionAt t i) s)
 unfolding run
-reach-next t s r i h =
-    (r .0, r .1 ++ i ∷ [], r .2, sequence-append t (r .1) (i ∷ []) (r .3) (h, tt), run-append t (r .0) (r .1) (i ∷ []) ∙ ap (next (actionAt t i)) (r .4))
+reach-next t s r i h = (
+  r .0,
+  r .1 ++ i ∷ [],
+  r .2,
+  sequence-append t (r .1) (i ∷ []) (r .3) (h, tt),
+  run-append t (r .0) (r .1) (i ∷ [])
+      ∙ ap (next (actionAt t i)) (r .4),
+)
 
 pub reach-lt : {t : Task} {s : ℕ} → Bounded t → Reachable t s → s < 2 ^ t .facts
 reach-lt {t} b r =

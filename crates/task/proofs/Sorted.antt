@@ -28,12 +28,14 @@ sort (x ∷ xs) = insert x (sort xs)
 
 -- ---- one insertion
 
-insert-cases : (Z : List ℕ → Type 0) (x y : ℕ) (ys : List ℕ) → (x < y → Z (x ∷ y ∷ ys)) → (x ≡ y → Z (y ∷ ys)) → (y < x → Z (y ∷ insert x ys))
+insert-cases : (Z : List ℕ → Type 0) (x y : ℕ) (ys : List ℕ) → (x < y → Z (x ∷ y ∷ ys)) → (x ≡ y → Z (y ∷ ys))
+    → (y < x → Z (y ∷ insert x ys))
     → Z (insert x (y ∷ ys))
 unfolding insert
 insert-cases Z x y ys a b c = go (ltb x y) refl (eqb x y) refl
   where
-    go : (p : Bool) → ltb x y ≡ p → (q : Bool) → eqb x y ≡ q → Z (elim p [ true ↦ x ∷ y ∷ ys | false ↦ elim q [ true ↦ y ∷ ys | false ↦ y ∷ insert x ys ] ])
+    go : (p : Bool) → ltb x y ≡ p → (q : Bool) → eqb x y ≡ q
+        → Z (elim p [ true ↦ x ∷ y ∷ ys | false ↦ elim q [ true ↦ y ∷ ys | false ↦ y ∷ insert x ys ] ])
     go true e q d = a (ltb-true x y e)
     go false e true d = b (eqb-true x y d)
     go false e false d = c (let l = ltb-false x y e in let n = eqb-false x y d in omega arith)
@@ -48,7 +50,8 @@ insert-length : (x : ℕ) (l : List ℕ) → length (insert x l) ≤ suc (length
 unfolding insert
 insert-length x [] = le-refl 1
 insert-length x (y ∷ ys) =
-    insert-cases (λ (l : List ℕ). length l ≤ suc (suc (length ys))) x y ys (λ l. le-refl _) (λ e. le-suc _) (λ l. suc-le-suc (insert-length x ys))
+    insert-cases (λ (l : List ℕ). length l ≤ suc (suc (length ys))) x y ys (λ l. le-refl _) (λ e. le-suc _)
+    (λ l. suc-le-suc (insert-length x ys))
 
 insert-in : (z x : ℕ) (l : List ℕ) → T (member z (x ∷ l)) → T (member z (insert x l))
 unfolding insert

@@ -59,6 +59,10 @@ both-ways false false f g = refl
 pub holds : {b : Bool} → b ≡ true → T b
 holds e = subst T (sym e) tt
 
+pub is-false : (b : Bool) → (T b → ⊥) → b ≡ false
+is-false true h = absurd (h tt)
+is-false false h = refl
+
 pub is-true : (b : Bool) → T b → b ≡ true
 is-true true t = refl
 is-true false t = absurd t

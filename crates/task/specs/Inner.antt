@@ -1,14 +1,30 @@
--- Two definitions that only inner promises use: a fact of a mask, and the action that does nothing.
+-- What only inner promises use: a fact of a mask, the action that does nothing, and the task's ends as one value.
 -- Assumes nothing.
 use Prim.Native.Nat.{ℕ, _/_, _%_, _^_}
 use mathlib.Core.Bool.{Bool}
 use lib.Dec.{eqb}
+use Rattle.task.specs.Facts.{allOn}
+use Rattle.task.specs.Task.{Task}
 use Rattle.task.specs.declared.Action.{Action}
+use Rattle.task.specs.declared.Ends.{Ends}
 
--- fact i is on in m
+-- 1 where fact f is on in m, 0 where it is off; and the same as a test
+unfoldable pub bit : ℕ → ℕ → ℕ
+bit f m = m / 2 ^ f % 2
+
 unfoldable pub has : ℕ → ℕ → Bool
-has m i = eqb (m / 2 ^ i % 2) 1
+has m f = eqb (bit f m) 1
 
 -- the action that does nothing and always applies
 unfoldable pub noAction : Action
 noAction = record { pre = 0; add = 0; del = 0 }
+
+-- a task's ends; `isInit` and `isGoal` by them
+unfoldable pub endsOf : Task → Ends
+endsOf t = record { facts = t .facts; init = t .init; goal = t .goal }
+
+unfoldable pub atInit : Ends → ℕ → Bool
+atInit e s = eqb s (e .init)
+
+unfoldable pub atGoal : Ends → ℕ → Bool
+atGoal e s = allOn (e .goal) s

@@ -1,7 +1,9 @@
 // The planning task: states as masks of facts, actions, and the move of one action. Nothing here knows of files.
 ghost use mathlib.Core.Path.{_≡_};
+ghost use Prim.Native.Nat.{_-_, _^_, min};
 ghost use Rattle.task.specs.Facts.{allOn};
 ghost use Rattle.task.specs.Task.{applies, after};
+ghost use Rattle.task.specs.Inner.{atInit, atGoal};
 
 // An action: the facts it needs, those it adds and those it deletes.
 // Document 01 calls it an event, with needs, sets and clears.
@@ -11,11 +13,44 @@ pub struct Action {
     pub del: u64,
 }
 
+// The task's ends: over so many facts, the initial state and the goal's mask.
+// Document 01 calls them the start and the forbidden mask.
+pub struct Ends {
+    pub facts: u8,
+    pub init: u64,
+    pub goal: u64,
+}
+
 // Whether every fact of a mask is on in a state.
 pub fn all_on(mask: u64, state: u64) -> bool
     ensures { λ r. ⌜ r ≡ allOn mask state ⌝ }
 {
     state & mask == mask
+}
+
+// Whether a state is the initial one.
+pub fn is_init(ends: Ends, state: u64) -> bool
+    ensures { λ r. ⌜ r ≡ atInit ends state ⌝ }
+{
+    state == ends.init
+}
+
+// Whether a state is one of the goal's.
+pub fn is_goal(ends: Ends, state: u64) -> bool
+    ensures { λ r. ⌜ r ≡ atGoal ends state ⌝ }
+{
+    all_on(ends.goal, state)
+}
+
+// The mask of the first n facts, all 64 of them where n is 64 or above.
+pub fn all_facts(n: u8) -> u64
+    ensures { λ r. ⌜ r ≡ 2 ^ min n 64 - 1 ⌝ }
+{
+    if n < 64 {
+        (1u64 << n) - 1
+    } else {
+        18446744073709551615
+    }
 }
 
 // Whether an action may happen in a state.

@@ -15,7 +15,8 @@ pub neither : (a b : ℕ) → bitOr a b ≡ 0 → (a ≡ 0) × (b ≡ 0)
 neither a b e = (omega (arith, or-add-and a b, and-le-l a b, and-le-r a b), omega (arith, or-add-and a b, and-le-l a b, and-le-r a b))
 
 -- of four in a row
-pub four-zero : (M : ℕ → Type 0) (i a b c d : ℕ) → (a ≡ 0 → M i) → (b ≡ 0 → M (i + 1)) → (c ≡ 0 → M (i + 2)) → (d ≡ 0 → M (i + 3)) → bitOr (bitOr (bitOr a b) c) d ≡ 0
+pub four-zero : (M : ℕ → Type 0) (i a b c d : ℕ) → (a ≡ 0 → M i) → (b ≡ 0 → M (i + 1)) → (c ≡ 0 → M (i + 2)) → (d ≡ 0 → M (i + 3))
+    → bitOr (bitOr (bitOr a b) c) d ≡ 0
     → (j : ℕ) → i ≤ j → j < i + 4 → M j
 four-zero M i a b c d ha hb hc hd e j l h =
     let z = neither (bitOr (bitOr a b) c) d e in
@@ -33,16 +34,20 @@ pub missed-one : (M : ℕ → Type 0) (i : ℕ) → M i → (j : ℕ) → i ≤ 
 missed-one M i m j l h = subst M (omega arith) m
 
 -- up to k, and from there on
-pub missed-more : {M : ℕ → Type 0} {i k n : ℕ} → ((j : ℕ) → i ≤ j → j < k → M j) → ((j : ℕ) → k ≤ j → j < n → M j) → (j : ℕ) → i ≤ j → j < n → M j
+pub missed-more : {M : ℕ → Type 0} {i k n : ℕ} → ((j : ℕ) → i ≤ j → j < k → M j) → ((j : ℕ) → k ≤ j → j < n → M j) → (j : ℕ) → i ≤ j
+    → j < n → M j
 missed-more {M} {i} {k} {n} u v j l h = elim (decLt j k) [ yes p ↦ u j l p | no p ↦ v j (omega arith) h ]
 
 -- what the bytes of a clause and of masks have in common, in either order
 pub hit-misses : {two : Bool} (p n off on : ℕ) → two ≡ true → p < 2 ^ 64 → n < 2 ^ 64 → off < 2 ^ 64 → on < 2 ^ 64
-    → (bitOr (bitAnd (turned8 p) (turned8 off)) (bitAnd (turned8 n) (turned8 on)) ≡ 0) ↔ Misses two off on (record { positive = p; negative = n })
+    → (bitOr (bitAnd (turned8 p) (turned8 off)) (bitAnd (turned8 n) (turned8 on)) ≡ 0)
+    ↔ Misses two off on (record { positive = p; negative = n })
 hit-misses p n off on s hp hn ho hi = (
-  (λ e. let z = neither (bitAnd (turned8 p) (turned8 off)) (bitAnd (turned8 n) (turned8 on)) e in ((λ t. clear8 p off hp ho .0 (z .0)), clear8 n on hn hi .0 (z .1))),
+  (λ e. let z = neither (bitAnd (turned8 p) (turned8 off)) (bitAnd (turned8 n) (turned8 on)) e in
+      ((λ t. clear8 p off hp ho .0 (z .0)), clear8 n on hn hi .0 (z .1))),
   (λ m. ap₂ bitOr (clear8 p off hp ho .1 (m .0 s)) (clear8 n on hn hi .1 (m .1))),
 )
 
-pub hit-body : {two : Bool} (p n off on : ℕ) → two ≡ false → n < 2 ^ 64 → on < 2 ^ 64 → (bitAnd (turned8 n) (turned8 on) ≡ 0) ↔ Misses two off on (record { positive = p; negative = n })
+pub hit-body : {two : Bool} (p n off on : ℕ) → two ≡ false → n < 2 ^ 64 → on < 2 ^ 64
+    → (bitAnd (turned8 n) (turned8 on) ≡ 0) ↔ Misses two off on (record { positive = p; negative = n })
 hit-body p n off on s hn hi = ((λ e. ((λ t. absurd (true≢false (sym t ∙ s))), clear8 n on hn hi .0 e)), (λ m. clear8 n on hn hi .1 (m .1)))

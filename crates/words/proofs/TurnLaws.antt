@@ -10,7 +10,8 @@ use lib.Pow.{pow-pos, split}
 use Rattle.words.specs.Words.{turned2, turned4, turned8}
 
 -- two halves of k bits change places, and T is done to each
-module _ (k : ℕ) (T : ℕ → ℕ) (room : (z : ℕ) → z < 2 ^ k → T z < 2 ^ k) (clear : (x y : ℕ) → x < 2 ^ k → y < 2 ^ k → (bitAnd (T x) (T y) ≡ 0) ↔ (bitAnd x y ≡ 0))
+module _ (k : ℕ) (T : ℕ → ℕ) (room : (z : ℕ) → z < 2 ^ k → T z < 2 ^ k)
+    (clear : (x y : ℕ) → x < 2 ^ k → y < 2 ^ k → (bitAnd (T x) (T y) ≡ 0) ↔ (bitAnd x y ≡ 0))
     (none : (a b : ℕ) → a * 2 ^ k + b ≡ 0 → (a ≡ 0) × (b ≡ 0)) (zero : 0 * 2 ^ k + 0 ≡ 0) where
   halves-clear : (x y : ℕ) → x / 2 ^ k < 2 ^ k → y / 2 ^ k < 2 ^ k
       → (bitAnd (T (x % 2 ^ k) * 2 ^ k + T (x / 2 ^ k)) (T (y % 2 ^ k) * 2 ^ k + T (y / 2 ^ k)) ≡ 0) ↔ (bitAnd x y ≡ 0)
@@ -19,8 +20,10 @@ module _ (k : ℕ) (T : ℕ → ℕ) (room : (z : ℕ) → z < 2 ^ k → T z < 2
       let ly = mod-lt y (pow-pos k) in
       let turned = and-block k (T (x % 2 ^ k)) (T (y % 2 ^ k)) (T (x / 2 ^ k)) (T (y / 2 ^ k)) (room _ hx) (room _ hy) in
       let plain = ap₂ bitAnd (sym (split x k)) (sym (split y k)) ∙ and-block k (x / 2 ^ k) (y / 2 ^ k) (x % 2 ^ k) (y % 2 ^ k) lx ly in (
-        (λ e. let z = none _ _ (sym turned ∙ e) in plain ∙ ap₂ (λ (a b : ℕ). a * 2 ^ k + b) (clear _ _ hx hy .0 (z .1)) (clear _ _ lx ly .0 (z .0)) ∙ zero),
-        (λ e. let z = none _ _ (sym plain ∙ e) in turned ∙ ap₂ (λ (a b : ℕ). a * 2 ^ k + b) (clear _ _ lx ly .1 (z .1)) (clear _ _ hx hy .1 (z .0)) ∙ zero),
+        (λ e. let z = none _ _ (sym turned ∙ e) in plain
+            ∙ ap₂ (λ (a b : ℕ). a * 2 ^ k + b) (clear _ _ hx hy .0 (z .1)) (clear _ _ lx ly .0 (z .0)) ∙ zero),
+        (λ e. let z = none _ _ (sym plain ∙ e) in turned
+            ∙ ap₂ (λ (a b : ℕ). a * 2 ^ k + b) (clear _ _ lx ly .1 (z .1)) (clear _ _ hx hy .1 (z .0)) ∙ zero),
       )
 
 room2 : (z : ℕ) → z < 2 ^ 16 → turned2 z < 2 ^ 16
@@ -33,7 +36,8 @@ room4 z h = omega (arith, room2 (z % 65536) (omega arith), room2 (z / 65536) (om
 
 clear2 : (x y : ℕ) → x < 2 ^ 16 → y < 2 ^ 16 → (bitAnd (turned2 x) (turned2 y) ≡ 0) ↔ (bitAnd x y ≡ 0)
 unfolding turned2
-clear2 x y hx hy = halves-clear 8 (λ z. z) (λ z h. h) (λ a b h k. ((λ t. t), (λ t. t))) (λ a b t. (omega arith, omega arith)) (omega arith) x y (omega arith) (omega arith)
+clear2 x y hx hy = halves-clear 8 (λ z. z) (λ z h. h) (λ a b h k. ((λ t. t), (λ t. t))) (λ a b t. (omega arith, omega arith))
+    (omega arith) x y (omega arith) (omega arith)
 
 clear4 : (x y : ℕ) → x < 2 ^ 32 → y < 2 ^ 32 → (bitAnd (turned4 x) (turned4 y) ≡ 0) ↔ (bitAnd x y ≡ 0)
 unfolding turned4

@@ -6,11 +6,11 @@ use mathlib.Core.List.{List}
 use Prim.Native.Nat.{ℕ, _+_, _*_, _/_, _%_, _≤_, _<_}
 use lib.Bits.{bitAnd}
 use Rattle.meaning.specs.declared.Clause.{Clause}
-use Rattle.bytes.specs.Numbers.{numberAt}
+use Rattle.bytes.specs.Numbers.{clauseAt}
 
 -- clause i of those that stand in the file from a place
 unfoldable pub wordsAt : List ℕ → ℕ → ℕ → Clause
-wordsAt bytes at i = record { positive = numberAt 8 bytes (at + 16 * i); negative = numberAt 8 bytes (at + 16 * i + 8) }
+wordsAt bytes at i = clauseAt bytes (at + 16 * i)
 
 -- the bytes of a number in the other order: two, four and eight
 unfoldable pub turned2 : ℕ → ℕ

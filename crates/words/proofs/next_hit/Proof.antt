@@ -25,8 +25,13 @@ returns c =
 loop-again : tie.Need-loop-again Inv-loop μ-loop
 loop-again c =
     let v = c .before .before .before .loop in
-    let a = c .before .before .before .before .before .before .args in
-    (search needs, search needs, missed-more (v .inv .2) (missed-one (λ k. Misses (a .two) (a .off) (a .on) (wordsAt (a .file .now) (a .at) k)) (v .j) (c .before .hit .ensures .0 (c .if1 .left))))
+    let a = c .before .before .before .before .before .before .args in (
+      search needs,
+      search needs,
+      missed-more (v .inv .2)
+          (missed-one (λ k. Misses (a .two) (a .off) (a .on) (wordsAt (a .file .now) (a .at) k)) (v .j)
+          (c .before .hit .ensures .0 (c .if1 .left))),
+    )
 
 returns-2 : tie.Need-returns-2 Inv-loop μ-loop
 returns-2 c = let v = c .before .loop .inv in record { from = v .0; until = v .1; past = v .2; there = λ l. absurd (omega arith) }

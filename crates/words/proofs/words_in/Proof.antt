@@ -2,6 +2,7 @@
 -- Assumes nothing.
 use Prim.Native.Nat.{_+_, _*_}
 use mathlib.Core.Path.{sym, _∙_}
+use Rattle.bytes.specs.Numbers.{clauseAt}
 use borrow.Author.Needs.{needs}
 use Rattle.bytes.proofs.ByteLaws.{number-in}
 use Rattle.words.specs.Words.{wordsAt}
@@ -9,7 +10,7 @@ use Rattle.words.proofs.words_in.Statement.{statement}
 use Rattle.words.proofs.words_in.Tie as tie
 
 returns : tie.Need-returns
-unfolding wordsAt
+unfolding wordsAt clauseAt
 returns c =
     let a = c .before .before .before .args in
     let e₁ = c .before .u64-in .ensures ∙ sym (number-in 8 (a .file .now) (a .at + 16 * a .i) (search needs)) in
