@@ -12,15 +12,17 @@ use Rattle.meaning.specs.declared.Clause.{Clause}
 use Rattle.certificate.specs.declared.views.Head.{Head}
 use Rattle.meaning.specs.Result.{Result, found, _>>=_, known}
 use Rattle.meaning.specs.Bytes.{number, inside}
-use Rattle.meaning.specs.File.{ActionSet, all, listed, either, Basic, empty, init, goal, explicit, horn, twoCnf, StateSet, basic, complement, intersection, union, progression, regression}
-use Rattle.meaning.specs.Layout.{items, ascending, field, mask, reference, clause, Kind, plain, upTo, one, two, clauses, actionKinds, stateKinds, hornRule, twoCnfRule, entry}
-use Rattle.certificate.specs.Views.{stateEntryAt, actionEntryAt, span, viewOfBasic, viewOf, viewOfActions}
-use Rattle.bytes.specs.Numbers.{numberAt}
-use Rattle.certificate.specs.Index.{headAt, stateTable, stateOf, actionTable, actionsOf, clauseAt}
+use Rattle.meaning.specs.File.{ActionSet, all, listed, either, Basic, empty, init, goal, explicit, horn, twoCnf, StateSet, basic}
+use Rattle.meaning.specs.File.{complement, intersection, union, progression, regression}
+use Rattle.meaning.specs.Layout.{items, ascending, field, mask, reference, clause, Kind, plain, upTo, one, two, clauses, actionKinds}
+use Rattle.meaning.specs.Layout.{stateKinds, hornRule, twoCnfRule, entry}
+use Rattle.certificate.specs.Views.{headAt, spanOf, stateTable, stateOf, actionTable, actionsOf, stateEntryAt, actionEntryAt, span}
+use Rattle.certificate.specs.Views.{viewOfBasic, viewOf, viewOfActions}
+use Rattle.bytes.specs.Numbers.{numberAt, clauseAt}
 use Rattle.meaning.proofs.Results.{found-same, bind-case, need-case, known-out}
 use Rattle.bytes.proofs.ByteLaws.{number-in}
-use Rattle.certificate.proofs.TableLaws.{state-here, actions-here}
-use Rattle.certificate.proofs.ItemLaws.{Items, Stands, items-stand, ascending-items, field-stands, mask-stands, reference-stands, clause-stands}
+use Rattle.certificate.proofs.ItemLaws.{Items, Stands, items-stand, ascending-items, field-stands, mask-stands, reference-stands}
+use Rattle.certificate.proofs.ItemLaws.{clause-stands}
 
 -- ---- where the items of an entry at place p stand
 
@@ -56,7 +58,8 @@ module _ {A : Type 0} (bytes : List ℕ) where
     end : {j : ℕ} → AllSay P j []
     _&_ : {j : ℕ} {k : Kind A} {ks : List (Kind A)} → KindSays (P j) k → AllSay P (suc j) ks → AllSay P j (k ∷ ks)
 
-  say-at : (P : ℕ → ℕ → ℕ → A → Type 0) (j : ℕ) (ks : List (Kind A)) → AllSay P j ks → (i : ℕ) (k : Kind A) → getElem? ks i ≡ some k → KindSays (P (j + i)) k
+  say-at : (P : ℕ → ℕ → ℕ → A → Type 0) (j : ℕ) (ks : List (Kind A)) → AllSay P j ks → (i : ℕ) (k : Kind A) → getElem? ks i ≡ some k
+      → KindSays (P (j + i)) k
   say-at P j [] end i k e = let z : _≡_ {A = ℕ} 0 1 = cc in absurd (omega arith)
   say-at P j (k′ ∷ ks) (s & ss) zero k e =
       let q : k′ ≡ k = cc in
@@ -81,7 +84,8 @@ module _ {A : Type 0} (bytes : List ℕ) where
       let in-file : p + (2 + len) ≤ length bytes = leb→le (p + (2 + len)) (length bytes) i in
       let kind : number 1 bytes (p + 2) ≡ numberAt 1 bytes (p + 2) = sym (number-in 1 bytes (p + 2) (omega arith)) in
       let z : 0 + number 1 bytes (p + 2) ≡ number 1 bytes (p + 2) = omega arith in
-      let says = say-at P 0 ks s (number 1 bytes (p + 2)) k (known-out (getElem? ks (number 1 bytes (p + 2))) 4 (p + 2) k k!) p (len - 1) x (omega arith) t q in
+      let says = say-at P 0 ks s (number 1 bytes (p + 2)) k (known-out (getElem? ks (number 1 bytes (p + 2))) 4 (p + 2) k k!) p (len - 1) x
+      (omega arith) t q in
       subst (λ (n : ℕ). (1 ≤ n) × (p + 2 + n ≤ length bytes) × P (numberAt 1 bytes (p + 2)) p (n - 1) x) (sym (h .1))
       (some-len, omega arith, subst (λ (n : ℕ). P n p (len - 1) x) (z ∙ kind) says)
 
@@ -98,7 +102,8 @@ module _ {A : Type 0} (bytes : List ℕ) where
         bind-case (reference bytes bound (p + 3)) _ x e λ a a! q.
         subst (P p len) (ap make (reference-stands bytes bound (p + 3) a a! .1) ∙ found-same q) (h p len)
 
-    say-two : (make : ℕ → ℕ → A) (bound bound′ : ℕ) → ((p len : ℕ) → P p len (make (numberAt 2 bytes (p + 3)) (numberAt 2 bytes (p + 5)))) → KindSays P (two bytes make bound bound′)
+    say-two : (make : ℕ → ℕ → A) (bound bound′ : ℕ) → ((p len : ℕ) → P p len (make (numberAt 2 bytes (p + 3)) (numberAt 2 bytes (p + 5))))
+        → KindSays P (two bytes make bound bound′)
     unfolding two
     say-two make bound bound′ h p len x b t e =
         bind-case (reference bytes bound (p + 3)) _ x e λ a a! e₁.
@@ -112,7 +117,8 @@ module _ {A : Type 0} (bytes : List ℕ) where
     -- a body that is read as a list of items
     say-list : {B : Type 0} (size : ℕ) (at : ℕ → B) (read : ℕ → Result B) → Stands bytes size at read → (make : List B → A)
         → ((p len : ℕ) (xs : List B) → length xs ≡ len / size → Items bytes size at (p + 3) xs → P p len (make xs))
-        → (p len : ℕ) (x : A) → p + 3 + len ≤ length bytes → (xs : List B) → items read size (p + 3) (len / size) ≡ found xs → found (make xs) ≡ found x → P p len x
+        → (p len : ℕ) (x : A) → p + 3 + len ≤ length bytes → (xs : List B) → items read size (p + 3) (len / size) ≡ found xs
+        → found (make xs) ≡ found x → P p len x
     say-list size at read stands make h p len x b xs e q =
         let s = items-stand bytes size at read stands (len / size) (p + 3) xs (omega arith) e in
         subst (P p len) (found-same q) (h p len xs (s .0) (s .1))
@@ -146,7 +152,7 @@ abbrev ActionSays : List ℕ → ℕ → ℕ → ℕ → ActionSet → Type 0
 ActionSays bytes j p len x = (actionsOf (headOf bytes j p len) ≡ viewOfActions p x) × ActionItems bytes p x
 
 state-kinds-say : (bytes : List ℕ) (n m i : ℕ) → AllSay bytes (StateSays bytes) 0 (stateKinds bytes n m i)
-unfolding stateKinds stateOf stateTable viewOf viewOfBasic span
+unfolding stateKinds stateOf stateTable spanOf viewOf viewOfBasic span
 state-kinds-say bytes n m i =
     let P : ℕ → ℕ → ℕ → StateSet → Type 0 = StateSays bytes in
     say-plain bytes (P 0) (basic empty) (λ p len. (refl, tt))
@@ -163,7 +169,7 @@ state-kinds-say bytes n m i =
     & end
 
 action-kinds-say : (bytes : List ℕ) (m i : ℕ) → AllSay bytes (ActionSays bytes) 0 (actionKinds bytes m i)
-unfolding actionKinds actionsOf actionTable viewOfActions span
+unfolding actionKinds actionsOf actionTable spanOf viewOfActions span
 action-kinds-say bytes m i =
     let P : ℕ → ℕ → ℕ → ActionSet → Type 0 = ActionSays bytes in
     say-plain bytes (P 0) all (λ p len. (refl, tt))
@@ -189,14 +195,16 @@ abbrev pub Ends : List ℕ → ℕ → Type 0
 Ends bytes p = p + 2 + numberAt 2 bytes p ≤ length bytes
 
 module _ (bytes : List ℕ) where
-  pub state-set-stands : (n m i p : ℕ) (x : StateSet) → entry bytes (stateKinds bytes n m i) p ≡ found x → Ends bytes p × StateSetStands bytes p x
-  unfolding headAt
+  pub state-set-stands : (n m i p : ℕ) (x : StateSet) → entry bytes (stateKinds bytes n m i) p ≡ found x
+      → Ends bytes p × StateSetStands bytes p x
+  unfolding stateEntryAt headAt
   state-set-stands n m i p x e =
       let s = entry-says bytes (StateSays bytes) (stateKinds bytes n m i) (state-kinds-say bytes n m i) p x e in
-      (s .1, record { inside = omega arith; view = state-here bytes p ∙ s .2 .0; items = s .2 .1 })
+      (s .1, record { inside = omega arith; view = s .2 .0; items = s .2 .1 })
 
-  pub action-set-stands : (m i p : ℕ) (x : ActionSet) → entry bytes (actionKinds bytes m i) p ≡ found x → Ends bytes p × ActionSetStands bytes p x
-  unfolding headAt
+  pub action-set-stands : (m i p : ℕ) (x : ActionSet) → entry bytes (actionKinds bytes m i) p ≡ found x
+      → Ends bytes p × ActionSetStands bytes p x
+  unfolding actionEntryAt headAt
   action-set-stands m i p x e =
       let s = entry-says bytes (ActionSays bytes) (actionKinds bytes m i) (action-kinds-say bytes m i) p x e in
-      (s .1, record { inside = omega arith; view = actions-here bytes p ∙ s .2 .0; items = s .2 .1 })
+      (s .1, record { inside = omega arith; view = s .2 .0; items = s .2 .1 })

@@ -10,10 +10,9 @@ use lib.ListN.{length, getD}
 use lib.Dec.{leb, ltb, leb→le}
 use Rattle.meaning.specs.Result.{Result, found}
 use Rattle.meaning.specs.Bytes.{inside}
-use Rattle.meaning.specs.File.{Step}
 use Rattle.meaning.specs.Layout.{items, ascending, field, count, mask, reference, action, clause, step}
-use Rattle.bytes.specs.Numbers.{numberAt}
-use Rattle.certificate.specs.Index.{actionIn, clauseAt}
+use Rattle.bytes.specs.Numbers.{numberAt, clauseAt}
+use Rattle.certificate.specs.Views.{actionIn, stepRead}
 use Rattle.meaning.proofs.Results.{found-same, bind-case, bind-in, need-case}
 use Rattle.bytes.proofs.ByteLaws.{number-in}
 
@@ -27,7 +26,8 @@ abbrev pub Stands : {A : Type 0} → List ℕ → ℕ → (ℕ → A) → (ℕ �
 Stands {A} bytes size at read = (p : ℕ) (x : A) → read p ≡ found x → (p + size ≤ length bytes) × (at p ≡ x)
 
 module _ {A : Type 0} (bytes : List ℕ) (size : ℕ) (at : ℕ → A) where
-  cons-here : (p : ℕ) (x : A) (xs : List A) → at p ≡ x → Items bytes size at (p + size) xs → (d : A) (i : ℕ) → i < suc (length xs) → at (p + size * i) ≡ getD (x ∷ xs) i d
+  cons-here : (p : ℕ) (x : A) (xs : List A) → at p ≡ x → Items bytes size at (p + size) xs → (d : A) (i : ℕ) → i < suc (length xs)
+      → at (p + size * i) ≡ getD (x ∷ xs) i d
   cons-here p x xs a h d zero l = let e : p + size * 0 ≡ p = omega arith in ap at e ∙ a
   cons-here p x xs a h d (suc i) l =
       let m : size * suc i ≡ size * i + size = mul-suc size i in
@@ -42,11 +42,13 @@ module _ {A : Type 0} (bytes : List ℕ) (size : ℕ) (at : ℕ → A) where
 
   module _ (read : ℕ → Result A) (stands : Stands bytes size at read) where
     -- items that are read stand one after the other
-    pub items-stand : (k p : ℕ) (xs : List A) → p ≤ length bytes → items read size p k ≡ found xs → (length xs ≡ k) × Items bytes size at p xs
+    pub items-stand : (k p : ℕ) (xs : List A) → p ≤ length bytes → items read size p k ≡ found xs
+        → (length xs ≡ k) × Items bytes size at p xs
     unfolding items
     items-stand zero p xs b e =
         let l : p + size * 0 ≤ length bytes = omega arith in
-        subst (λ ys. (length ys ≡ 0) × Items bytes size at p ys) (found-same e) (refl, record { inside = l; here = λ d i n. absurd (omega arith) })
+        subst (λ ys. (length ys ≡ 0) × Items bytes size at p ys) (found-same e)
+        (refl, record { inside = l; here = λ d i n. absurd (omega arith) })
     items-stand (suc k) p xs b e =
         bind-case (read p) _ xs e λ x x! e₁.
         bind-case (items read size (p + size) k) _ xs e₁ λ ys ys! q.
@@ -55,7 +57,8 @@ module _ {A : Type 0} (bytes : List ℕ) (size : ℕ) (at : ℕ → A) where
         subst (λ zs. (length zs ≡ suc k) × Items bytes size at p zs) (found-same q) (ap suc (h .0), items-cons p x ys (a .1) (h .1))
 
 -- items that must ascend are items
-pub ascending-items : (read : ℕ → Result ℕ) (size k low p : ℕ) (xs : List ℕ) → ascending read size low p k ≡ found xs → items read size p k ≡ found xs
+pub ascending-items : (read : ℕ → Result ℕ) (size k low p : ℕ) (xs : List ℕ) → ascending read size low p k ≡ found xs
+    → items read size p k ≡ found xs
 unfolding ascending items
 ascending-items read size zero low p xs e = e
 ascending-items read size (suc k) low p xs e =
@@ -116,17 +119,7 @@ module _ (bytes : List ℕ) where
       let v = mask-stands n (p + 8) b b! in
       (omega arith, cc)
 
-  -- a step, put together from the numbers that stand there
-  unfoldable pub stepRead : ℕ → Step
-  stepRead p = record {
-    rule = numberAt 1 bytes p;
-    kind = numberAt 1 bytes (p + 1);
-    left = numberAt 2 bytes (p + 2);
-    right = numberAt 2 bytes (p + 4);
-    premises = numberAt 2 bytes (p + 6) ∷ numberAt 2 bytes (p + 8) ∷ numberAt 2 bytes (p + 10) ∷ [];
-  }
-
-  pub step-stands : Stands bytes 12 stepRead (step bytes)
+  pub step-stands : Stands bytes 12 (stepRead bytes) (step bytes)
   unfolding step stepRead inside
   step-stands p x e =
       need-case (inside 12 bytes p) 3 p _ x e λ t q.

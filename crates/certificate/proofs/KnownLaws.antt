@@ -1,100 +1,159 @@
 -- What is known of a checked file, as its entries, actions and steps.
 -- Assumes nothing.
-use mathlib.Core.Path.{_≡_, refl, sym, ap, subst}
+use mathlib.Core.Path.{_≡_, refl, sym, ap, _∙_, subst}
 use Prim.Native.Nat.{ℕ, zero, suc, _+_, _*_, _≤_, _<_}
 use native.Mathlib.Nat.{not-suc-le-zero, le-of-suc-le-suc}
+use native.Mathlib.Decide.{decLt}
+use native.Mathlib.Omega.{arith}
 use mathlib.Core.List.{List, [], _∷_}
 use lib.ListN.{length, getD}
 use Rattle.task.specs.Task.{actionAt}
+use Rattle.task.specs.Inner.{endsOf}
+use Rattle.bytes.specs.Numbers.{numberAt}
 use Rattle.certificate.specs.declared.Places.{Places}
 use Rattle.certificate.specs.declared.ActionEntry.the-variants.{All}
-use Rattle.certificate.specs.declared.StateEntry.the-variants.{Empty}
+use Rattle.certificate.specs.declared.BasicEntry.the-variants.{Empty}
+use Rattle.certificate.specs.declared.StateEntry.the-variants.{Basic}
+use Rattle.certificate.specs.declared.Judgement.the-variants.{Dead}
 use Rattle.meaning.specs.File.{actionSetAt, stateSetAt, stepAt}
-use Rattle.certificate.specs.Views.{placesOf, viewOf, viewOfBasic, viewOfActions}
-use Rattle.certificate.specs.Index.{actionIn, fieldsAt, fieldsOf, Index}
-use Rattle.certificate.specs.Known.{Known, decoded, statePlace, actionPlace}
+use Rattle.certificate.specs.Views.{placesOf, stateEntryAt, actionEntryAt, viewOf, viewOfBasic, viewOfActions, actionIn, stepRead}
+use Rattle.certificate.specs.Views.{judgementOf, judgementAt}
+use Rattle.certificate.specs.Index.{statePlace, actionPlace}
+use Rattle.certificate.specs.Known.{decoded, IsRead, Known, Placed}
 use Rattle.certificate.proofs.EntryLaws.{StateSetStands, ActionSetStands}
 use Rattle.meaning.proofs.Reading.{Read, file-read}
 use Rattle.meaning.proofs.Order.{Ordered, ordered}
 use Rattle.meaning.proofs.TaskBounds.{fits-bounded}
 use Rattle.task.proofs.Moves.{Bounded}
-use Rattle.certificate.proofs.ViewLaws.{PlacesFit, places-fit, action-at, fields-at, indexed-state-set, indexed-action-set}
+use Rattle.certificate.proofs.ViewLaws.{PlacesFit, places-fit, action-at, action-count-at, step-at, indexed-state-set}
+use Rattle.certificate.proofs.ViewLaws.{indexed-action-set}
 
 past : {A : Type 0} (xs : List A) (i : ℕ) (d : A) → length xs ≤ i → getD xs i d ≡ d
 past [] i d h = refl
 past (x ∷ xs) zero d h = absurd (not-suc-le-zero h)
 past (x ∷ xs) (suc i) d h = past xs i d (le-of-suc-le-suc h)
 
-module _ (bytes : List ℕ) (at : Places) (index : List ℕ) (k : Known bytes at index) where
-  table : Index bytes (placesOf bytes (decoded bytes)) index
-  table = subst (λ (q : Places). Index bytes q index) (k .places) (k .table)
+-- ---- the file was read
 
-  pub known-read : Read bytes (decoded bytes)
-  known-read = file-read bytes (decoded bytes) (k .read)
+module _ (bytes : List ℕ) (r : IsRead bytes) where
+  pub read-file : Read bytes (decoded bytes)
+  read-file = file-read bytes (decoded bytes) r
 
-  pub known-ordered : Ordered (decoded bytes)
-  known-ordered = ordered bytes (decoded bytes) known-read
+  pub read-ordered : Ordered (decoded bytes)
+  read-ordered = ordered bytes (decoded bytes) read-file
 
-  pub known-bounded : Bounded (decoded bytes .task)
-  known-bounded = fits-bounded (decoded bytes .task) (known-read .task)
+  pub read-bounded : Bounded (decoded bytes .task)
+  read-bounded = fits-bounded (decoded bytes .task) (read-file .task)
 
-  pub known-fit : PlacesFit bytes at
-  known-fit = subst (PlacesFit bytes) (sym (k .places)) (places-fit bytes (decoded bytes) (k .read))
+  -- its actions
+  pub read-action-count : numberAt 2 bytes 22 ≡ length (decoded bytes .task .actions)
+  read-action-count = action-count-at bytes (decoded bytes) r
 
-  -- the counts
-  pub known-state-sets : at .«state_sets» ≡ length (decoded bytes .stateSets)
-  unfolding placesOf
-  known-state-sets = ap (λ (q : Places). q .«state_sets») (k .places)
+  pub read-action : (i : ℕ) → i < length (decoded bytes .task .actions) → actionIn bytes (24 + 24 * i) ≡ actionAt (decoded bytes .task) i
+  read-action i l = action-at bytes (decoded bytes) r i l
 
-  pub known-action-sets : at .«action_sets» ≡ length (decoded bytes .actionSets)
-  unfolding placesOf
-  known-action-sets = ap (λ (q : Places). q .«action_sets») (k .places)
-
-  pub known-actions : at .actions ≡ length (decoded bytes .task .actions)
-  unfolding placesOf
-  known-actions = ap (λ (q : Places). q .actions) (k .places)
-
-  pub known-steps : at .steps ≡ length (decoded bytes .steps)
-  unfolding placesOf
-  known-steps = ap (λ (q : Places). q .steps) (k .places)
-
-  -- the task's numbers
-  pub known-facts : at .facts ≡ decoded bytes .task .facts
-  unfolding placesOf
-  known-facts = ap (λ (q : Places). q .facts) (k .places)
-
-  pub known-init : at .init ≡ decoded bytes .task .init
-  unfolding placesOf
-  known-init = ap (λ (q : Places). q .init) (k .places)
-
-  pub known-goal : at .goal ≡ decoded bytes .task .goal
-  unfolding placesOf
-  known-goal = ap (λ (q : Places). q .goal) (k .places)
-
-  -- an entry stands where the table says, with its view and its items
-  pub known-state-set : (e : ℕ) → e < at .«state_sets» → StateSetStands bytes (statePlace index e) (stateSetAt (decoded bytes) e)
-  unfolding statePlace
-  known-state-set e l = indexed-state-set bytes (decoded bytes) (k .read) index table e (rw known-state-sets at l)
-
-  pub known-action-set : (a : ℕ) → a < at .«action_sets» → ActionSetStands bytes (actionPlace index a) (actionSetAt (decoded bytes) a)
-  unfolding actionPlace
-  known-action-set a l = indexed-action-set bytes (decoded bytes) (k .read) index table a (rw known-action-sets at l)
-
-  pub known-no-state-set : (e : ℕ) → at .«state_sets» ≤ e → Empty ≡ viewOf (statePlace index e) (stateSetAt (decoded bytes) e)
-  unfolding stateSetAt viewOf viewOfBasic
-  known-no-state-set e l = rw (past (decoded bytes .stateSets) e _ (rw known-state-sets at l)) refl
-
-  pub known-no-action-set : (a : ℕ) → at .«action_sets» ≤ a → All ≡ viewOfActions (actionPlace index a) (actionSetAt (decoded bytes) a)
-  unfolding actionSetAt viewOfActions
-  known-no-action-set a l = rw (past (decoded bytes .actionSets) a _ (rw known-action-sets at l)) refl
-
-  -- an action; a step
-  pub known-action : (i : ℕ) → i < at .actions → actionIn bytes (24 + 24 * i) ≡ actionAt (decoded bytes .task) i
-  known-action i l = action-at bytes (decoded bytes) (k .read) i (rw known-actions at l)
-
-  pub known-no-action : (i : ℕ) → at .actions ≤ i → record { pre = 0; add = 0; del = 0 } ≡ actionAt (decoded bytes .task) i
+  pub read-no-action : (i : ℕ) → length (decoded bytes .task .actions) ≤ i
+      → record { pre = 0; add = 0; del = 0 } ≡ actionAt (decoded bytes .task) i
   unfolding actionAt
-  known-no-action i l = sym (past (decoded bytes .task .actions) i _ (rw known-actions at l))
+  read-no-action i l = sym (past (decoded bytes .task .actions) i _ l)
 
-  pub known-fields : (n : ℕ) → n < at .steps → fieldsAt bytes (at .«steps_at» + 12 * n) ≡ fieldsOf (stepAt (decoded bytes) n)
-  known-fields n l = rw (k .places) (fields-at bytes (decoded bytes) (k .read) n (rw known-steps at l))
+-- ---- its places
+
+module _ (bytes : List ℕ) (at : Places) (k : Placed bytes at) where
+  pub placed-fit : PlacesFit bytes at
+  placed-fit = subst (PlacesFit bytes) (sym (k .places)) (places-fit bytes (decoded bytes) (k .read))
+
+  pub placed-ends : at .ends ≡ endsOf (decoded bytes .task)
+  unfolding placesOf
+  placed-ends = ap (λ (q : Places). q .ends) (k .places)
+
+  pub placed-actions : at .actions ≡ length (decoded bytes .task .actions)
+  unfolding placesOf
+  placed-actions = ap (λ (q : Places). q .actions) (k .places)
+
+  pub placed-action-sets : at .«action_sets» ≡ length (decoded bytes .actionSets)
+  unfolding placesOf
+  placed-action-sets = ap (λ (q : Places). q .«action_sets») (k .places)
+
+  pub placed-state-sets : at .«state_sets» ≡ length (decoded bytes .stateSets)
+  unfolding placesOf
+  placed-state-sets = ap (λ (q : Places). q .«state_sets») (k .places)
+
+  pub placed-steps : at .steps ≡ length (decoded bytes .steps)
+  unfolding placesOf
+  placed-steps = ap (λ (q : Places). q .steps) (k .places)
+
+  pub placed-step : (n : ℕ) → n < at .steps → stepRead bytes (at .«steps_at» + 12 * n) ≡ stepAt (decoded bytes) n
+  placed-step n l = rw (k .places) (step-at bytes (decoded bytes) (k .read) n (rw placed-steps at l))
+
+  pub placed-no-step : (n : ℕ) → at .steps ≤ n → Dead 0 ≡ judgementAt (decoded bytes) n
+  unfolding judgementAt judgementOf stepAt
+  placed-no-step n l = rw (past (decoded bytes .steps) n _ (rw placed-steps at l)) refl
+
+-- ---- the table of its entries
+
+module _ (bytes : List ℕ) (index : List ℕ) (k : Known bytes index) where
+  -- an entry stands where the table says, with its view and its items
+  pub known-state-set : (e : ℕ) → e < length (decoded bytes .stateSets)
+      → StateSetStands bytes (statePlace index e) (stateSetAt (decoded bytes) e)
+  known-state-set e l = indexed-state-set bytes (decoded bytes) (k .read) index (k .table) e l .0
+
+  pub known-action-set : (a : ℕ) → a < length (decoded bytes .actionSets)
+      → ActionSetStands bytes (actionPlace index a) (actionSetAt (decoded bytes) a)
+  known-action-set a l = indexed-action-set bytes (decoded bytes) (k .read) index (k .table) a l .0
+
+  -- the table has 0 just where there is no entry
+  no-state-set : (e : ℕ) → length (decoded bytes .stateSets) ≤ e → statePlace index e ≡ 0
+  unfolding placesOf
+  no-state-set e l = k .table .noStateSet e l
+
+  no-action-set : (a : ℕ) → length (decoded bytes .actionSets) ≤ a → actionPlace index a ≡ 0
+  unfolding placesOf
+  no-action-set a l = k .table .noActionSet a l
+
+  pub known-state-here : (e : ℕ) → (statePlace index e ≡ 0 → ⊥)
+      → stateEntryAt bytes (statePlace index e) ≡ viewOf (statePlace index e) (stateSetAt (decoded bytes) e)
+  known-state-here e n =
+      elim (decLt e (length (decoded bytes .stateSets))) [
+        | yes l ↦ known-state-set e l .view
+        | no l ↦ absurd (n (no-state-set e (omega arith)))
+      ]
+
+  pub known-state-none : (e : ℕ) → statePlace index e ≡ 0 → Basic Empty ≡ viewOf (statePlace index e) (stateSetAt (decoded bytes) e)
+  unfolding stateSetAt viewOf viewOfBasic
+  known-state-none e z =
+      elim (decLt e (length (decoded bytes .stateSets))) [
+        | yes l ↦ absurd (let h = indexed-state-set bytes (decoded bytes) (k .read) index (k .table) e l .1 in omega arith)
+        | no l ↦ rw (past (decoded bytes .stateSets) e _ (omega arith)) refl
+      ]
+
+  pub known-actions-here : (a : ℕ) → (actionPlace index a ≡ 0 → ⊥)
+      → actionEntryAt bytes (actionPlace index a) ≡ viewOfActions (actionPlace index a) (actionSetAt (decoded bytes) a)
+  known-actions-here a n =
+      elim (decLt a (length (decoded bytes .actionSets))) [
+        | yes l ↦ known-action-set a l .view
+        | no l ↦ absurd (n (no-action-set a (omega arith)))
+      ]
+
+  pub known-actions-none : (a : ℕ) → actionPlace index a ≡ 0 → All ≡ viewOfActions (actionPlace index a) (actionSetAt (decoded bytes) a)
+  unfolding actionSetAt viewOfActions
+  known-actions-none a z =
+      elim (decLt a (length (decoded bytes .actionSets))) [
+        | yes l ↦ absurd (let h = indexed-action-set bytes (decoded bytes) (k .read) index (k .table) a l .1 in omega arith)
+        | no l ↦ rw (past (decoded bytes .actionSets) a _ (omega arith)) refl
+      ]
+
+  -- an entry that there is stands within the file
+  pub known-state-room : (e : ℕ) → (statePlace index e ≡ 0 → ⊥) → statePlace index e + 7 ≤ length bytes
+  known-state-room e n =
+      elim (decLt e (length (decoded bytes .stateSets))) [
+        | yes l ↦ indexed-state-set bytes (decoded bytes) (k .read) index (k .table) e l .2
+        | no l ↦ absurd (n (no-state-set e (omega arith)))
+      ]
+
+  pub known-actions-room : (a : ℕ) → (actionPlace index a ≡ 0 → ⊥) → actionPlace index a + 7 ≤ length bytes
+  known-actions-room a n =
+      elim (decLt a (length (decoded bytes .actionSets))) [
+        | yes l ↦ indexed-action-set bytes (decoded bytes) (k .read) index (k .table) a l .2
+        | no l ↦ absurd (n (no-action-set a (omega arith)))
+      ]

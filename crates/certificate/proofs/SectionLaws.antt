@@ -3,6 +3,7 @@
 use mathlib.Core.Path.{_≡_, refl, sym, ap, _∙_, subst}
 use Prim.Native.Nat.{ℕ, zero, suc, _+_, _*_, _≤_, _<_}
 use native.Mathlib.Omega.{arith}
+use native.Mathlib.Decide.{decLt}
 use mathlib.Core.List.{List, [], _∷_}
 use lib.ListN.{length, getD}
 use Rattle.task.specs.Task.{Task}
@@ -10,12 +11,12 @@ use Rattle.meaning.specs.Result.{found}
 use Rattle.meaning.specs.Bytes.{number}
 use Rattle.meaning.specs.File.{ActionSet, StateSet, Step, File}
 use Rattle.meaning.specs.Layout.{action, step, Kind, actionKinds, stateKinds, entry, entries, readTask, readFile}
-use Rattle.certificate.specs.Views.{afterEntry, entryPlace, placesOf}
-use Rattle.certificate.specs.Index.{actionIn}
+use Rattle.bytes.specs.Numbers.{numberAt}
+use Rattle.certificate.specs.Views.{afterEntry, entryPlace, placesOf, actionIn, stepRead}
 use Rattle.meaning.proofs.Reading.{task-walked, file-walked}
 use Rattle.meaning.proofs.Results.{found-same, bind-case}
 use Rattle.bytes.proofs.ByteLaws.{number-in}
-use Rattle.certificate.proofs.ItemLaws.{Items, items-stand, count-stands, action-stands, stepRead, step-stands}
+use Rattle.certificate.proofs.ItemLaws.{Items, items-stand, count-stands, action-stands, step-stands}
 use Rattle.certificate.proofs.EntryLaws.{StateSetStands, ActionSetStands, Ends, state-set-stands, action-set-stands}
 
 -- entry j of those that start at place p is what stands at its place; they end within the file
@@ -35,6 +36,16 @@ unfolding entryPlace afterEntry
 place-le bytes p zero = omega arith
 place-le bytes p (suc j) = let h = place-le bytes p j in omega arith
 
+-- one of n entries ends before the place after all of them
+pub place-before : (bytes : List ℕ) (p j n : ℕ) → j < n → entryPlace bytes p j + 2 ≤ entryPlace bytes p n
+unfolding entryPlace afterEntry
+place-before bytes p j zero l = absurd (omega arith)
+place-before bytes p j (suc n) l =
+    elim (decLt j n) [
+      | yes m ↦ (let h = place-before bytes p j n m in omega arith)
+      | no m ↦ (let e : j ≡ n = omega arith in rw e (omega arith))
+    ]
+
 module _ {A : Type 0} (bytes : List ℕ) (S : ℕ → A → Type 0) where
   entries-none : (p : ℕ) → p ≤ length bytes → Entries bytes S p []
   unfolding entryPlace
@@ -52,7 +63,8 @@ module _ {A : Type 0} (bytes : List ℕ) (S : ℕ → A → Type 0) where
         → (length (r .0) ≡ k) × (r .1 ≡ entryPlace bytes p (length (r .0))) × Entries bytes S p (r .0)
     unfolding entries entryPlace afterEntry
     entries-stand zero i p r b e =
-        subst (λ (s : List A × ℕ). (length (s .0) ≡ 0) × (s .1 ≡ entryPlace bytes p (length (s .0))) × Entries bytes S p (s .0)) (found-same e)
+        subst (λ (s : List A × ℕ). (length (s .0) ≡ 0) × (s .1 ≡ entryPlace bytes p (length (s .0))) × Entries bytes S p (s .0))
+        (found-same e)
         (refl, refl, entries-none p b)
     entries-stand (suc k) i p r b e =
         bind-case (entry bytes (kinds i) p) _ r e λ x x! e₁.
@@ -60,7 +72,8 @@ module _ {A : Type 0} (bytes : List ℕ) (S : ℕ → A → Type 0) where
         let a = stands i p x x! in
         let n : p + 2 + number 2 bytes p ≡ afterEntry bytes p = ap (λ (m : ℕ). p + 2 + m) (sym (number-in 2 bytes p (omega arith))) in
         let h = entries-stand k (suc i) (afterEntry bytes p) s (a .0) (ap (λ (m : ℕ). entries bytes kinds (suc i) m k) (sym n) ∙ s!) in
-        subst (λ (z : List A × ℕ). (length (z .0) ≡ suc k) × (z .1 ≡ entryPlace bytes p (length (z .0))) × Entries bytes S p (z .0)) (found-same q) (
+        subst (λ (z : List A × ℕ). (length (z .0) ≡ suc k) × (z .1 ≡ entryPlace bytes p (length (z .0))) × Entries bytes S p (z .0))
+        (found-same q) (
           ap suc (h .0),
           h .1 ∙ place-next bytes p (length (s .0)),
           record {
@@ -72,17 +85,22 @@ module _ {A : Type 0} (bytes : List ℕ) (S : ℕ → A → Type 0) where
 -- ---- the file
 
 task-stands : (bytes : List ℕ) (r : Task × ℕ) → readTask bytes ≡ found r
-    → (r .1 ≡ 24 + 24 * length (r .0 .actions)) × Items bytes 24 (actionIn bytes) 24 (r .0 .actions)
+    → (r .1 ≡ 24 + 24 * length (r .0 .actions)) × (numberAt 2 bytes 22 ≡ length (r .0 .actions))
+    × Items bytes 24 (actionIn bytes) 24 (r .0 .actions)
 task-stands bytes r e =
     let w = task-walked bytes r e in
     let c = count-stands bytes 0 256 22 (w .m) (w .m!) in
-    let h = items-stand bytes 24 (actionIn bytes) (action bytes (w .n)) (action-stands bytes (w .n)) (w .m) 24 (w .acts) (c .0) (w .acts!) in
-    subst (λ (x : Task × ℕ). (x .1 ≡ 24 + 24 * length (x .0 .actions)) × Items bytes 24 (actionIn bytes) 24 (x .0 .actions)) (w .whole)
-    (ap (λ (k : ℕ). 24 + 24 * k) (sym (h .0)), h .1)
+    let h = items-stand bytes 24 (actionIn bytes) (action bytes (w .n)) (action-stands bytes (w .n)) (w .m) 24 (w .acts) (c .0)
+    (w .acts!) in
+    subst (λ (x : Task × ℕ). (x .1 ≡ 24 + 24 * length (x .0 .actions)) × (numberAt 2 bytes 22 ≡ length (x .0 .actions))
+    × Items bytes 24 (actionIn bytes) 24 (x .0 .actions))
+    (w .whole)
+    (ap (λ (k : ℕ). 24 + 24 * k) (sym (h .0)), c .1 ∙ sym (h .0), h .1)
 
 -- where everything stands; the steps end the file
 pub record Parts (bytes : List ℕ) (f : File) : Type 0 where
   pub short : length bytes ≤ 65536
+  pub action-count : numberAt 2 bytes 22 ≡ length (f .task .actions)
   pub actions : Items bytes 24 (actionIn bytes) 24 (f .task .actions)
   pub actionSets : Entries bytes (ActionSetStands bytes) (placesOf bytes f .«action_sets_at») (f .actionSets)
   pub stateSets : Entries bytes (StateSetStands bytes) (placesOf bytes f .«state_sets_at») (f .stateSets)
@@ -92,18 +110,21 @@ pub record Parts (bytes : List ℕ) (f : File) : Type 0 where
 -- the same for a file put together from its parts, at the places after them
 parts-at : (bytes : List ℕ) (t : Task) (es : List ActionSet) (ss : List StateSet) (ks : List Step) (a s k : ℕ)
     → a ≡ 24 + 24 * length (t .actions) → s ≡ entryPlace bytes (a + 2) (length es) → k ≡ entryPlace bytes (s + 2) (length ss)
-    → length bytes ≤ 65536 → Items bytes 24 (actionIn bytes) 24 (t .actions) → Entries bytes (ActionSetStands bytes) (a + 2) es
+    → length bytes ≤ 65536 → numberAt 2 bytes 22 ≡ length (t .actions) → Items bytes 24 (actionIn bytes) 24 (t .actions)
+    → Entries bytes (ActionSetStands bytes) (a + 2) es
     → Entries bytes (StateSetStands bytes) (s + 2) ss → Items bytes 12 (stepRead bytes) (k + 2) ks → length bytes ≤ k + 2 + 12 * length ks
     → Parts bytes (record { task = t; actionSets = es; stateSets = ss; steps = ks })
 unfolding placesOf
-parts-at bytes t es ss ks a s k a! s! k! short acts aes sss kks end =
+parts-at bytes t es ss ks a s k a! s! k! short many acts aes sss kks end =
     let n : a + 2 ≡ 26 + 24 * length (t .actions) = omega arith in
-    let s₁ : s + 2 ≡ entryPlace bytes (26 + 24 * length (t .actions)) (length es) + 2 = ap (λ (q : ℕ). q + 2) (s! ∙ ap (λ (q : ℕ). entryPlace bytes q (length es)) n) in
+    let s₁ : s + 2 ≡ entryPlace bytes (26 + 24 * length (t .actions)) (length es) + 2 =
+    ap (λ (q : ℕ). q + 2) (s! ∙ ap (λ (q : ℕ). entryPlace bytes q (length es)) n) in
     let k₁ : k + 2 ≡ entryPlace bytes (entryPlace bytes (26 + 24 * length (t .actions)) (length es) + 2) (length ss) + 2 =
     ap (λ (q : ℕ). q + 2) (k! ∙ ap (λ (q : ℕ). entryPlace bytes q (length ss)) s₁) in
     let i = kks .inside in
     record {
       short = short;
+      action-count = many;
       actions = acts;
       actionSets = subst (λ (q : ℕ). Entries bytes (ActionSetStands bytes) q es) n aes;
       stateSets = subst (λ (q : ℕ). Entries bytes (StateSetStands bytes) q ss) s₁ sss;
@@ -117,10 +138,16 @@ file-parts bytes f e =
     let w = file-walked bytes f e in
     let t = w .t in
     let a = task-stands bytes t (w .t!) in
-    let b = entries-stand bytes (ActionSetStands bytes) (actionKinds bytes (length (t .0 .actions))) (action-set-stands bytes (length (t .0 .actions))) (w .ac) 0 (t .1 + 2) (w .es) (count-stands bytes 0 256 (t .1) (w .ac) (w .ac!) .0) (w .es!) in
-    let c = entries-stand bytes (StateSetStands bytes) (stateKinds bytes (t .0 .facts) (w .ac)) (state-set-stands bytes (t .0 .facts) (w .ac)) (w .sc) 0 (w .es .1 + 2) (w .ss) (count-stands bytes 0 512 (w .es .1) (w .sc) (w .sc!) .0) (w .ss!) in
-    let d = items-stand bytes 12 (stepRead bytes) (step bytes) (step-stands bytes) (w .kc) (w .ss .1 + 2) (w .ks) (count-stands bytes 1 2048 (w .ss .1) (w .kc) (w .kc!) .0) (w .ks!) in
+    let b = entries-stand bytes (ActionSetStands bytes) (actionKinds bytes (length (t .0 .actions)))
+    (action-set-stands bytes (length (t .0 .actions))) (w .ac) 0 (t .1 + 2) (w .es)
+    (count-stands bytes 0 256 (t .1) (w .ac) (w .ac!) .0) (w .es!) in
+    let c = entries-stand bytes (StateSetStands bytes) (stateKinds bytes (t .0 .facts) (w .ac))
+    (state-set-stands bytes (t .0 .facts) (w .ac)) (w .sc) 0 (w .es .1 + 2) (w .ss)
+    (count-stands bytes 0 512 (w .es .1) (w .sc) (w .sc!) .0) (w .ss!) in
+    let d = items-stand bytes 12 (stepRead bytes) (step bytes) (step-stands bytes) (w .kc) (w .ss .1 + 2) (w .ks)
+    (count-stands bytes 1 2048 (w .ss .1) (w .kc) (w .kc!) .0) (w .ks!) in
     let n = d .0 in
     let l = w .last in
     subst (Parts bytes) (w .whole)
-    (parts-at bytes (t .0) (w .es .0) (w .ss .0) (w .ks) (t .1) (w .es .1) (w .ss .1) (a .0) (b .1) (c .1) (w .short) (a .1) (b .2) (c .2) (d .1) (omega arith))
+    (parts-at bytes (t .0) (w .es .0) (w .ss .0) (w .ks) (t .1) (w .es .1) (w .ss .1) (a .0) (b .1) (c .1) (w .short) (a .1) (a .2) (b .2)
+    (c .2) (d .1) (omega arith))

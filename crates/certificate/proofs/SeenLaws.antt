@@ -1,4 +1,5 @@
--- From a view back to what a file that is read holds: the entry that the code sees in a case is the file's entry of that kind, and its span holds the items.
+-- From a view back to what a file that is read holds: the entry that the code sees in a case is the file's entry of that kind, and its
+-- span holds the items.
 -- Assumes nothing.
 use mathlib.Core.Path.{_≡_, refl, sym, _∙_, subst}
 use Prim.Native.Nat.{ℕ}
@@ -8,12 +9,15 @@ use Rattle.meaning.specs.declared.Clause.{Clause}
 use Rattle.certificate.specs.declared.Span.{Span}
 use Rattle.certificate.specs.declared.ActionEntry.{ActionEntry}
 use Rattle.certificate.specs.declared.ActionEntry.the-variants.{All, Listed, Either}
+use Rattle.certificate.specs.declared.BasicEntry.{BasicEntry}
+use Rattle.certificate.specs.declared.BasicEntry.the-variants.{Empty, Init, Goal, Explicit, Horn, TwoCnf}
 use Rattle.certificate.specs.declared.StateEntry.{StateEntry}
-use Rattle.certificate.specs.declared.StateEntry.the-variants.{Empty, Init, Goal, Explicit, Horn, TwoCnf, Complement, Intersection, Union, Progression, Regression}
-use Rattle.meaning.specs.File.{ActionSet, all, listed, either, Basic, empty, init, goal, explicit, horn, twoCnf, StateSet, basic, complement, intersection, union, progression, regression}
+use Rattle.certificate.specs.declared.StateEntry.the-variants.{Basic, Complement, Intersection, Union, Progression, Regression}
+use Rattle.meaning.specs.File as file
+use Rattle.meaning.specs.File.{ActionSet, all, listed, either, empty, init, goal, explicit, horn, twoCnf, StateSet, basic, complement}
+use Rattle.meaning.specs.File.{intersection, union, progression, regression}
 use Rattle.certificate.specs.Views.{actionEntryAt, span, viewOfBasic, viewOf, viewOfActions}
-use Rattle.bytes.specs.Numbers.{numberAt}
-use Rattle.certificate.specs.Index.{clauseAt}
+use Rattle.bytes.specs.Numbers.{numberAt, clauseAt}
 use Rattle.certificate.proofs.ItemLaws.{Items}
 use Rattle.certificate.proofs.EntryLaws.{BasicItems, StateItems, ActionItems, ActionSetStands}
 
@@ -23,14 +27,17 @@ pub record Holds {A : Type 0} (bytes : List ℕ) (size : ℕ) (at : ℕ → A) (
   pub items : Items bytes size at (s .at) xs
 
 module _ (bytes : List ℕ) where
-  -- the state set x is what the view says
+  -- the basic set x is what the view says; the state set x is
+  abbrev pub BasicSeen : BasicEntry → file.Basic → Type 0
+  BasicSeen Empty x = x ≡ empty
+  BasicSeen Init x = x ≡ init
+  BasicSeen Goal x = x ≡ goal
+  BasicSeen (Explicit s) x = (ss : List ℕ) × (x ≡ explicit ss) × Holds bytes 8 (numberAt 8 bytes) s ss
+  BasicSeen (Horn s) x = (cs : List Clause) × (x ≡ horn cs) × Holds bytes 16 (clauseAt bytes) s cs
+  BasicSeen (TwoCnf s) x = (cs : List Clause) × (x ≡ twoCnf cs) × Holds bytes 16 (clauseAt bytes) s cs
+
   abbrev pub StateSeen : StateEntry → StateSet → Type 0
-  StateSeen Empty x = x ≡ basic empty
-  StateSeen Init x = x ≡ basic init
-  StateSeen Goal x = x ≡ basic goal
-  StateSeen (Explicit s) x = (ss : List ℕ) × (x ≡ basic (explicit ss)) × Holds bytes 8 (numberAt 8 bytes) s ss
-  StateSeen (Horn s) x = (cs : List Clause) × (x ≡ basic (horn cs)) × Holds bytes 16 (clauseAt bytes) s cs
-  StateSeen (TwoCnf s) x = (cs : List Clause) × (x ≡ basic (twoCnf cs)) × Holds bytes 16 (clauseAt bytes) s cs
+  StateSeen (Basic v) x = (b : file.Basic) × (x ≡ basic b) × BasicSeen v b
   StateSeen (Complement a) x = x ≡ complement a
   StateSeen (Intersection a b) x = x ≡ intersection a b
   StateSeen (Union a b) x = x ≡ union a b
@@ -42,7 +49,7 @@ module _ (bytes : List ℕ) where
   ActionsSeen (Listed s) x = (is : List ℕ) × (x ≡ listed is) × Holds bytes 2 (numberAt 2 bytes) s is
   ActionsSeen (Either a b) x = x ≡ either a b
 
-  basic-seen : (p : ℕ) (b : Basic) → BasicItems bytes p b → StateSeen (viewOfBasic p b) (basic b)
+  pub basic-seen : (p : ℕ) (b : file.Basic) → BasicItems bytes p b → BasicSeen (viewOfBasic p b) b
   unfolding viewOfBasic span
   basic-seen p empty h = refl
   basic-seen p init h = refl
@@ -53,7 +60,7 @@ module _ (bytes : List ℕ) where
 
   pub view-seen : (p : ℕ) (x : StateSet) → StateItems bytes p x → StateSeen (viewOf p x) x
   unfolding viewOf
-  view-seen p (basic b) h = basic-seen p b h
+  view-seen p (basic b) h = (b, refl, basic-seen p b h)
   view-seen p (complement a) h = refl
   view-seen p (intersection a b) h = refl
   view-seen p (union a b) h = refl

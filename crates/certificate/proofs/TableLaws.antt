@@ -3,14 +3,16 @@
 use mathlib.Core.Path.{_≡_, refl, sym}
 use Prim.Native.Nat.{ℕ, zero, suc, _+_, _≤_}
 use native.Mathlib.Omega.{arith}
+use mathlib.Core.Bool.{true, false, _&&_}
 use mathlib.Core.List.{List, [], _∷_}
 use lib.ListN.{length, getD, drop, List·getD-eq-default}
+use lib.Dec.{eqb}
 use Rattle.certificate.specs.declared.ActionEntry.the-variants.{All}
-use Rattle.certificate.specs.declared.StateEntry.the-variants.{Empty}
+use Rattle.certificate.specs.declared.BasicEntry.the-variants.{Empty}
+use Rattle.certificate.specs.declared.StateEntry.the-variants.{Basic}
 use Rattle.certificate.specs.declared.Judgement.the-variants.{Dead, Within, ActionsWithin, Unsolvable}
 use Rattle.certificate.specs.declared.views.Head.{Head}
-use Rattle.certificate.specs.Views.{spanAt, stateEntryAt, actionEntryAt, judgementOf}
-use Rattle.certificate.specs.Index.{headAt, stateTable, stateOf, actionTable, actionsOf}
+use Rattle.certificate.specs.Views.{stateTable, stateOf, actionTable, actionsOf, judgementOf, cleanOf}
 
 -- k is none of the n numbers from `from` on
 abbrev pub NoneOf : ℕ → ℕ → ℕ → Type 0
@@ -27,15 +29,15 @@ past-table : {A : Type 0} (xs : List A) (d : A) (k : ℕ) → NoneOf 0 (length x
 past-table xs d k r = sym (List·getD-eq-default xs d (let b = beyond 0 (length xs) k (omega arith) r in omega arith))
 
 -- k is past the table or 0, where the default stands too
-past-or-first : {A : Type 0} (xs : List A) (d : A) (k : ℕ) → NoneOf 1 (length xs) k → d ≡ getD (d ∷ xs) k d
+pub past-or-first : {A : Type 0} (xs : List A) (d : A) (k : ℕ) → NoneOf 1 (length xs) k → d ≡ getD (d ∷ xs) k d
 past-or-first xs d zero r = refl
 past-or-first xs d (suc k) r = sym (List·getD-eq-default xs d (let b = beyond 1 (length xs) (suc k) (omega arith) r in omega arith))
 
--- ---- the three tables
+-- ---- the tables
 
-pub state-left : (h : Head) → NoneOf 1 10 (h .kind) → Empty ≡ stateOf h
+pub state-left : (h : Head) → NoneOf 1 10 (h .kind) → Basic Empty ≡ stateOf h
 unfolding stateOf stateTable
-state-left h = past-or-first (drop 1 (stateTable h)) Empty (h .kind)
+state-left h = past-or-first (drop 1 (stateTable h)) (Basic Empty) (h .kind)
 
 pub actions-left : (h : Head) → NoneOf 1 2 (h .kind) → All ≡ actionsOf h
 unfolding actionsOf actionTable
@@ -45,13 +47,6 @@ pub judgement-left : (k a b : ℕ) → NoneOf 0 3 k → Unsolvable ≡ judgement
 unfolding judgementOf
 judgement-left k a b = past-table (Dead a ∷ Within a b ∷ ActionsWithin a b ∷ []) Unsolvable k
 
--- ---- an entry at a place, by its numbers
-
-module _ (bytes : List ℕ) (p : ℕ) where
-  pub state-here : stateEntryAt bytes p ≡ stateOf (headAt bytes p)
-  unfolding stateEntryAt spanAt headAt stateOf stateTable
-  state-here = refl
-
-  pub actions-here : actionEntryAt bytes p ≡ actionsOf (headAt bytes p)
-  unfolding actionEntryAt spanAt headAt actionsOf actionTable
-  actions-here = refl
+pub clean-left : (k a b : ℕ) → NoneOf 0 4 k → false ≡ cleanOf k a b
+unfolding cleanOf
+clean-left k a b = past-table (eqb b 0 ∷ true ∷ true ∷ (eqb a 0 && eqb b 0) ∷ []) false k

@@ -6,22 +6,23 @@ use native.Mathlib.Omega.{arith}
 use mathlib.Core.List.{List, []}
 use lib.ListN.{length, getD}
 use Rattle.task.specs.Task.{actionAt}
+use Rattle.task.specs.Inner.{endsOf}
 use Rattle.certificate.specs.declared.Places.{Places}
 use Rattle.meaning.specs.Result.{found}
 use Rattle.meaning.specs.File.{all, basic, empty, File, actionSetAt, stateSetAt, stepAt}
 use Rattle.meaning.specs.Layout.{readFile}
-use Rattle.certificate.specs.Views.{entryPlace, placesOf}
-use Rattle.certificate.specs.Index.{actionIn, fieldsAt, fieldsOf, capped, Index}
+use Rattle.bytes.specs.Numbers.{numberAt}
+use Rattle.certificate.specs.Views.{entryPlace, placesOf, actionIn, stepRead}
+use Rattle.certificate.specs.Index.{capped, statePlace, actionPlace, Table}
 use Rattle.meaning.proofs.Reading.{file-read}
-use Rattle.certificate.proofs.ItemLaws.{stepRead}
 use Rattle.certificate.proofs.EntryLaws.{StateSetStands, ActionSetStands}
-use Rattle.certificate.proofs.SectionLaws.{place-le, Parts, file-parts}
+use Rattle.certificate.proofs.SectionLaws.{place-le, place-before, Parts, file-parts}
 
 -- the numbers of a file's outline are small, and its places lie within the file, in their order
 pub record PlacesFit (bytes : List ℕ) (at : Places) : Type 0 where
   pub short : length bytes ≤ 65536
-  pub some-facts : 1 ≤ at .facts
-  pub few-facts : at .facts ≤ 64
+  pub some-facts : 1 ≤ at .ends .facts
+  pub few-facts : at .ends .facts ≤ 64
   pub few-actions : at .actions ≤ 256
   pub few-action-sets : at .«action_sets» ≤ 256
   pub few-state-sets : at .«state_sets» ≤ 512
@@ -37,7 +38,7 @@ module _ (bytes : List ℕ) (f : File) (r : readFile bytes ≡ found f) where
   parts = file-parts bytes f r
 
   pub places-fit : PlacesFit bytes (placesOf bytes f)
-  unfolding placesOf
+  unfolding placesOf endsOf
   places-fit =
       let p = parts in
       let h = file-read bytes f r in
@@ -61,11 +62,13 @@ module _ (bytes : List ℕ) (f : File) (r : readFile bytes ≡ found f) where
       }
 
   -- state set e stands at its place, with the view and the items of what was read
-  pub state-set-at : (e : ℕ) → e < length (f .stateSets) → StateSetStands bytes (entryPlace bytes (placesOf bytes f .«state_sets_at») e) (stateSetAt f e)
+  pub state-set-at : (e : ℕ) → e < length (f .stateSets)
+      → StateSetStands bytes (entryPlace bytes (placesOf bytes f .«state_sets_at») e) (stateSetAt f e)
   unfolding stateSetAt
   state-set-at e l = parts .stateSets .here (basic empty) e l
 
-  pub action-set-at : (e : ℕ) → e < length (f .actionSets) → ActionSetStands bytes (entryPlace bytes (placesOf bytes f .«action_sets_at») e) (actionSetAt f e)
+  pub action-set-at : (e : ℕ) → e < length (f .actionSets)
+      → ActionSetStands bytes (entryPlace bytes (placesOf bytes f .«action_sets_at») e) (actionSetAt f e)
   unfolding actionSetAt
   action-set-at e l = parts .actionSets .here all e l
 
@@ -74,28 +77,47 @@ module _ (bytes : List ℕ) (f : File) (r : readFile bytes ≡ found f) where
   unfolding actionAt
   action-at i l = parts .actions .here _ i l
 
-  -- step k has the fields and the view of what stands at its place
-  pub fields-at : (k : ℕ) → k < length (f .steps) → fieldsAt bytes (placesOf bytes f .«steps_at» + 12 * k) ≡ fieldsOf (stepAt f k)
-  unfolding stepAt fieldsAt fieldsOf stepRead
-  fields-at k l = ap fieldsOf (parts .steps .here (record { rule = 0; kind = 0; left = 0; right = 0; premises = [] }) k l)
+  pub action-count-at : numberAt 2 bytes 22 ≡ length (f .task .actions)
+  action-count-at = parts .action-count
+
+  -- step k is what stands at its place
+  pub step-at : (k : ℕ) → k < length (f .steps) → stepRead bytes (placesOf bytes f .«steps_at» + 12 * k) ≡ stepAt f k
+  unfolding stepAt
+  step-at k l = parts .steps .here (record { rule = 0; kind = 0; left = 0; right = 0; premises = [] }) k l
 
   -- ---- the same by the table of places
 
-  module _ (index : List ℕ) (t : Index bytes (placesOf bytes f) index) where
+  module _ (index : List ℕ) (t : Table bytes (placesOf bytes f) index) where
     -- a place that is within the file is in the table as it is
     kept : (p x i : ℕ) → x ≡ capped p → p + 3 + i ≤ length bytes → x ≡ p
     kept p x i e l = let s = parts .short in omega arith
 
-    pub indexed-state-set : (e : ℕ) → e < length (f .stateSets) → StateSetStands bytes (getD index (256 + e) 0) (stateSetAt f e)
+    -- entries stand after the task, so that no place of one is 0, and before the steps
+    pub indexed-state-set : (e : ℕ) → e < length (f .stateSets)
+        → StateSetStands bytes (statePlace index e) (stateSetAt f e) × (1 ≤ statePlace index e) × (statePlace index e + 7 ≤ length bytes)
     unfolding placesOf
     indexed-state-set e l =
         let s = state-set-at e l in
-        let n = places-fit .few-state-sets in
-        subst (λ (q : ℕ). StateSetStands bytes q (stateSetAt f e)) (sym (kept _ _ _ (t .stateSets e l (omega arith)) (s .inside))) s
+        let k = kept _ _ _ (t .stateSets e l) (s .inside) in
+        let n = places-fit in
+        let low = place-le bytes (placesOf bytes f .«state_sets_at») e in
+        let high = place-before bytes (placesOf bytes f .«state_sets_at») e (length (f .stateSets)) l in (
+          subst (λ (q : ℕ). StateSetStands bytes q (stateSetAt f e)) (sym k) s,
+          omega (arith, n .after-actions, n .after-action-sets),
+          omega (arith, n .after-steps, n .some-steps),
+        )
 
-    pub indexed-action-set : (e : ℕ) → e < length (f .actionSets) → ActionSetStands bytes (getD index e 0) (actionSetAt f e)
+    pub indexed-action-set : (e : ℕ) → e < length (f .actionSets)
+        → ActionSetStands bytes (actionPlace index e) (actionSetAt f e) × (1 ≤ actionPlace index e)
+        × (actionPlace index e + 7 ≤ length bytes)
     unfolding placesOf
     indexed-action-set e l =
         let s = action-set-at e l in
-        let n = places-fit .few-action-sets in
-        subst (λ (q : ℕ). ActionSetStands bytes q (actionSetAt f e)) (sym (kept _ _ _ (t .actionSets e l (omega arith)) (s .inside))) s
+        let k = kept _ _ _ (t .actionSets e l) (s .inside) in
+        let n = places-fit in
+        let low = place-le bytes (placesOf bytes f .«action_sets_at») e in
+        let high = place-before bytes (placesOf bytes f .«action_sets_at») e (length (f .actionSets)) l in (
+          subst (λ (q : ℕ). ActionSetStands bytes q (actionSetAt f e)) (sym k) s,
+          omega (arith, n .after-actions),
+          omega (arith, n .after-steps, n .some-steps, n .after-state-sets),
+        )

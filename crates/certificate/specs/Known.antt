@@ -1,15 +1,14 @@
--- What the layers above the layout check may count on: the file was read, and these are its places and the table of its entries.
+-- What the layers above the layout check may count on: the file was read, these are its places, and this is the table of its entries.
 -- Assumes nothing.
 use mathlib.Core.Path.{_≡_}
-use Prim.Native.Nat.{ℕ, _+_}
+use Prim.Native.Nat.{ℕ}
 use mathlib.Core.List.{List, []}
-use lib.ListN.{getD}
 use Rattle.certificate.specs.declared.Places.{Places}
 use Rattle.meaning.specs.Result.{Result, refuse, found}
 use Rattle.meaning.specs.File.{File}
 use Rattle.meaning.specs.Layout.{readFile}
 use Rattle.certificate.specs.Views.{placesOf}
-use Rattle.certificate.specs.Index.{Index}
+use Rattle.certificate.specs.Index.{Table}
 
 -- the file that was read; the other value stands where none was
 unfoldable pub readOr : Result File → File
@@ -19,14 +18,15 @@ readOr (found f) = f
 unfoldable pub decoded : List ℕ → File
 decoded bytes = readOr (readFile bytes)
 
-pub record Known (bytes : List ℕ) (at : Places) (index : List ℕ) : Type 0 where
-  pub read : readFile bytes ≡ found (decoded bytes)
+abbrev pub IsRead : List ℕ → Type 0
+IsRead bytes = readFile bytes ≡ found (decoded bytes)
+
+-- and these are its places
+pub record Placed (bytes : List ℕ) (at : Places) : Type 0 where
+  pub read : IsRead bytes
   pub places : at ≡ placesOf bytes (decoded bytes)
-  pub table : Index bytes at index
 
--- where the table says that the entries stand
-unfoldable pub statePlace : List ℕ → ℕ → ℕ
-statePlace index e = getD index (256 + e) 0
-
-unfoldable pub actionPlace : List ℕ → ℕ → ℕ
-actionPlace index a = getD index a 0
+-- and this is the table of its entries
+pub record Known (bytes : List ℕ) (index : List ℕ) : Type 0 where
+  pub read : IsRead bytes
+  pub table : Table bytes (placesOf bytes (decoded bytes)) index

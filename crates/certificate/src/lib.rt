@@ -1,13 +1,16 @@
 // The file as it stands in memory: the places of its parts, and its entries and steps as values.
+use task::Ends;
 
-pub mod known;
+pub mod lookup;
 pub mod views;
 
-// The task's numbers, how many of each part a file has, and where the parts after the actions start.
+// The table of the entries' places: those of the action sets at 0 to 255, those of the state sets at 256 to 767, and 0 where there
+// is no entry.
+pub type Index = [u16; 768];
+
+// The task's ends, how many of each part a file has, and where the parts after the actions start.
 pub struct Places {
-    pub facts: u8,
-    pub init: u64,
-    pub goal: u64,
+    pub ends: Ends,
     pub actions: u16,
     pub action_sets: u16,
     pub state_sets: u16,
@@ -36,14 +39,19 @@ pub enum ActionEntry {
     Either(u16, u16),
 }
 
-// A state set, kinds 0 to 10.
-pub enum StateEntry {
+// A state set of kinds 0 to 5, which names no other.
+pub enum BasicEntry {
     Empty,
     Init,
     Goal,
     Explicit(Span),
     Horn(Span),
     TwoCnf(Span),
+}
+
+// A state set, kinds 0 to 10.
+pub enum StateEntry {
+    Basic(BasicEntry),
     Complement(u16),
     Intersection(u16, u16),
     Union(u16, u16),
@@ -59,9 +67,24 @@ pub enum Judgement {
     Unsolvable,
 }
 
-// A step: its rule's number, what it says, and its premises.
+// The numbers of the steps that are a step's premises; 0 where its rule has fewer.
+pub struct Premises {
+    pub first: u16,
+    pub second: u16,
+    pub third: u16,
+}
+
+// A step: its rule's number, what it says, and its premises. It is clean where its judgement kind is one of 0 to 3 and the entry
+// places that this kind does not use are zero.
 pub struct Step {
     pub rule: u8,
     pub judgement: Judgement,
-    pub premises: [u16; 3],
+    pub clean: bool,
+    pub premises: Premises,
+}
+
+// What is replied to a step: it passed, or document 01's refusal number, 8 to 11; the place is the step's number.
+pub enum StepReply {
+    Passed,
+    Refused(u8),
 }

@@ -1,22 +1,25 @@
 // A file's entries, steps and actions as values, and the table of the entries' places.
 use crate::ActionEntry;
+use crate::BasicEntry;
+use crate::Index;
 use crate::Judgement;
 use crate::Places;
+use crate::Premises;
 use crate::Span;
 use crate::StateEntry;
 use crate::Step;
-use bytes::byte_at;
 use bytes::byte_in;
 use bytes::u16_at;
 use bytes::u16_in;
 use bytes::u64_at;
 use task::Action;
 ghost use mathlib.Core.Path.{_≡_};
-ghost use Prim.Native.Nat.{_+_, _-_, _*_, _≤_};
-ghost use lib.ListN.{length, getD};
-ghost use Rattle.certificate.specs.Views.{stateEntryAt, actionEntryAt, judgementOf};
+ghost use Prim.Native.Nat.{_+_, _-_, _*_, _≤_, _<_};
+ghost use lib.ListN.{length};
 ghost use Rattle.bytes.specs.Numbers.{numberAt};
-ghost use Rattle.certificate.specs.Index.{headAt, stateOf, actionsOf, fieldsAt, stepOf, actionIn, capped, Indexed, Index};
+ghost use Rattle.certificate.specs.Views.{headAt, spanOf, stateOf, actionsOf, stateEntryAt, actionEntryAt, judgementOf, cleanOf, stepRead, stepOf, actionIn};
+ghost use Rattle.certificate.specs.Index.{capped, Indexed};
+ghost use Rattle.certificate.specs.Known.{Known, Placed};
 
 // The numbers of an entry: its kind, where its body starts and how long it is, and the two numbers that start the body.
 pub struct Head {
@@ -27,15 +30,6 @@ pub struct Head {
     pub second: u16,
 }
 
-// A step's fields as they stand in the file.
-pub struct Fields {
-    pub rule: u8,
-    pub kind: u8,
-    pub left: u16,
-    pub right: u16,
-    pub premises: [u16; 3],
-}
-
 // One less than n, and 0 of 0.
 fn less_one(n: u16) -> u16
     ensures { λ r. ⌜ r ≡ n - 1 ⌝ }
@@ -43,15 +37,16 @@ fn less_one(n: u16) -> u16
     if n == 0 { 0 } else { n - 1 }
 }
 
-// The numbers of the entry at a place.
+// The numbers of the entry at a place. An entry stands before the steps, so that its numbers stand within the file.
 fn head_at(file: &[u8], at: u16) -> Head
+    requires { ⌜ at + 7 ≤ length (now file) ⌝ }
     ensures { λ r. ⌜ r ≡ headAt (now (file .entry)) at ⌝ }
 {
     let p = at as usize;
-    let len = less_one(u16_at(file, p));
-    let kind = byte_at(file, p + 2);
-    let first = u16_at(file, p + 3);
-    let second = u16_at(file, p + 5);
+    let len = less_one(u16_in(file, p));
+    let kind = byte_in(file, p + 2);
+    let first = u16_in(file, p + 3);
+    let second = u16_in(file, p + 5);
     Head {
         kind,
         at: at as u32 + 3,
@@ -61,32 +56,34 @@ fn head_at(file: &[u8], at: u16) -> Head
     }
 }
 
+// The items of a body, of `size` bytes each.
+fn span_of(h: Head, size: u16) -> Span
+    requires { ⌜ 0 < size ⌝ }
+    ensures { λ r. ⌜ r ≡ spanOf h size ⌝ }
+{
+    Span {
+        at: h.at,
+        count: h.len / size,
+    }
+}
+
 // The state set with these numbers.
 fn state_of(h: Head) -> StateEntry
     ensures { λ r. ⌜ r ≡ stateOf h ⌝ }
 {
     let kind = h.kind;
     match kind {
-        1 => StateEntry::Init,
-        2 => StateEntry::Goal,
-        3 => StateEntry::Explicit(Span {
-            at: h.at,
-            count: h.len / 8,
-        }),
-        4 => StateEntry::Horn(Span {
-            at: h.at,
-            count: h.len / 16,
-        }),
-        5 => StateEntry::TwoCnf(Span {
-            at: h.at,
-            count: h.len / 16,
-        }),
+        1 => StateEntry::Basic(BasicEntry::Init),
+        2 => StateEntry::Basic(BasicEntry::Goal),
+        3 => StateEntry::Basic(BasicEntry::Explicit(span_of(h, 8))),
+        4 => StateEntry::Basic(BasicEntry::Horn(span_of(h, 16))),
+        5 => StateEntry::Basic(BasicEntry::TwoCnf(span_of(h, 16))),
         6 => StateEntry::Complement(h.first),
         7 => StateEntry::Intersection(h.first, h.second),
         8 => StateEntry::Union(h.first, h.second),
         9 => StateEntry::Progression(h.first, h.second),
         10 => StateEntry::Regression(h.first, h.second),
-        _ => StateEntry::Empty,
+        _ => StateEntry::Basic(BasicEntry::Empty),
     }
 }
 
@@ -96,10 +93,7 @@ fn actions_of(h: Head) -> ActionEntry
 {
     let kind = h.kind;
     match kind {
-        1 => ActionEntry::Listed(Span {
-            at: h.at,
-            count: h.len / 2,
-        }),
+        1 => ActionEntry::Listed(span_of(h, 2)),
         2 => ActionEntry::Either(h.first, h.second),
         _ => ActionEntry::All,
     }
@@ -107,6 +101,7 @@ fn actions_of(h: Head) -> ActionEntry
 
 // The state set that stands at a place.
 pub(crate) fn state_entry(file: &[u8], at: u16) -> StateEntry
+    requires { ⌜ at + 7 ≤ length (now file) ⌝ }
     ensures { λ r. ⌜ r ≡ stateEntryAt (now (file .entry)) at ⌝ }
 {
     state_of(head_at(file, at))
@@ -114,13 +109,14 @@ pub(crate) fn state_entry(file: &[u8], at: u16) -> StateEntry
 
 // The action set that stands at a place.
 pub(crate) fn action_entry(file: &[u8], at: u16) -> ActionEntry
+    requires { ⌜ at + 7 ≤ length (now file) ⌝ }
     ensures { λ r. ⌜ r ≡ actionEntryAt (now (file .entry)) at ⌝ }
 {
     actions_of(head_at(file, at))
 }
 
 // What a judgement of a kind says of two entries.
-pub fn judgement_of(kind: u8, a: u16, b: u16) -> Judgement
+fn judgement_of(kind: u8, a: u16, b: u16) -> Judgement
     ensures { λ r. ⌜ r ≡ judgementOf kind a b ⌝ }
 {
     match kind {
@@ -131,39 +127,40 @@ pub fn judgement_of(kind: u8, a: u16, b: u16) -> Judgement
     }
 }
 
-// The fields of the step whose first byte is at a place, within the file.
-pub(crate) fn fields_in(file: &[u8], at: u32) -> Fields
+// Whether a judgement kind is one of 0 to 3, and the entry places that it does not use are zero.
+fn is_clean(kind: u8, a: u16, b: u16) -> bool
+    ensures { λ r. ⌜ r ≡ cleanOf kind a b ⌝ }
+{
+    match kind {
+        0 => b == 0,
+        1 => true,
+        2 => true,
+        3 => (a == 0) & (b == 0),
+        _ => false,
+    }
+}
+
+// The step whose first byte is at a place, within the file.
+pub(crate) fn step_in(file: &[u8], at: u32) -> Step
     requires { ⌜ at + 12 ≤ length (now file) ⌝ }
-    ensures { λ r. ⌜ r ≡ fieldsAt (now (file .entry)) at ⌝ }
+    ensures { λ r. ⌜ r ≡ stepOf (stepRead (now (file .entry)) at) ⌝ }
 {
     let p = at as usize;
     let rule = byte_in(file, p);
     let kind = byte_in(file, p + 1);
     let left = u16_in(file, p + 2);
     let right = u16_in(file, p + 4);
-    let premises = [
-        u16_in(file, p + 6),
-        u16_in(file, p + 8),
-        u16_in(file, p + 10),
-    ];
-    Fields {
-        rule,
-        kind,
-        left,
-        right,
-        premises,
-    }
-}
-
-// The step with these fields.
-pub fn step_of(fields: Fields) -> Step
-    ensures { λ r. ⌜ r ≡ stepOf fields ⌝ }
-{
-    let judgement = judgement_of(fields.kind, fields.left, fields.right);
-    let premises = fields.premises;
+    let premises = Premises {
+        first: u16_in(file, p + 6),
+        second: u16_in(file, p + 8),
+        third: u16_in(file, p + 10),
+    };
+    let judgement = judgement_of(kind, left, right);
+    let clean = is_clean(kind, left, right);
     Step {
-        rule: fields.rule,
+        rule,
         judgement,
+        clean,
         premises,
     }
 }
@@ -203,34 +200,15 @@ pub(crate) fn index_entries(file: &[u8], first: u32, count: u16, index: &mut [u1
     }
 }
 
-// Fills the table of a file's entries.
-pub fn index_file(file: &[u8], at: Places, index: &mut [u16; 768])
-    ensures { λ _. ⌜ Index (now (file .entry)) at (now (index .exit)) ⌝ }
+// The table of a file's entries.
+pub fn index_of(file: &[u8], at: Places) -> Index
+    requires { ⌜ Placed (now file) at ⌝ }
+    ensures { λ r. ⌜ Known (now (file .entry)) r ⌝ }
 {
-    index_entries(file, at.action_sets_at, at.action_sets, index, 0);
-    index_entries(file, at.state_sets_at, at.state_sets, index, 256);
-}
-
-// The state set with a number, by the table.
-pub(crate) fn state_set(file: &[u8], index: &[u16], e: u16) -> StateEntry
-    ensures { λ r. ⌜ r ≡ stateEntryAt (now (file .entry)) (getD (now (index .entry)) (256 + e) 0) ⌝ }
-{
-    let i = 256 + e as usize;
-    if i < index.len() {
-        return state_entry(file, index[i]);
-    }
-    state_entry(file, 0)
-}
-
-// The action set with a number, by the table.
-pub(crate) fn action_set(file: &[u8], index: &[u16], e: u16) -> ActionEntry
-    ensures { λ r. ⌜ r ≡ actionEntryAt (now (file .entry)) (getD (now (index .entry)) e 0) ⌝ }
-{
-    let i = e as usize;
-    if i < index.len() {
-        return action_entry(file, index[i]);
-    }
-    action_entry(file, 0)
+    let mut index = [0u16; 768];
+    index_entries(file, at.action_sets_at, at.action_sets, &mut index, 0);
+    index_entries(file, at.state_sets_at, at.state_sets, &mut index, 256);
+    index
 }
 
 // The action's number at an index of the body of a listed action set.

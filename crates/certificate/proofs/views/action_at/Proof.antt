@@ -1,6 +1,6 @@
 -- `views::action_at` meets its contract: it is made of the three numbers that are read.
 -- Assumes nothing.
-use Rattle.certificate.specs.Index.{actionIn}
+use Rattle.certificate.specs.Views.{actionIn}
 use borrow.Author.Needs.{needs}
 use Rattle.certificate.proofs.views.action_at.Statement.{statement}
 use Rattle.certificate.proofs.views.action_at.Tie as tie

@@ -1,4 +1,5 @@
--- `views::index_entries` meets its contract. The loop's invariant: `at` is the place of entry k, and the table has the places of the k entries before it.
+-- `views::index_entries` meets its contract. The loop's invariant: `at` is the place of entry k, and the table has the places of the k
+-- entries before it.
 -- The measure is the number of entries left.
 -- Assumes nothing.
 use mathlib.Core.Path.{_≡_, refl, ap, _∙_}

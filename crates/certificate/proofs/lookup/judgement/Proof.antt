@@ -1,0 +1,19 @@
+-- `lookup::judgement`: past the last step the default, else what the step says.
+-- Assumes nothing.
+use mathlib.Core.Path.{ap, _∙_}
+use borrow.Author.Needs.{needs}
+use Rattle.certificate.specs.declared.Step as code
+use Rattle.certificate.specs.Views.{stepOf, judgementAt}
+use Rattle.certificate.proofs.KnownLaws.{placed-no-step}
+use Rattle.certificate.proofs.lookup.judgement.Statement.{statement}
+use Rattle.certificate.proofs.lookup.judgement.Tie as tie
+
+returns : tie.Need-returns
+returns c = let s = c .before .before .before in placed-no-step _ _ (s .pre) (s .args .k) (c .if1 .taken)
+
+returns-2 : tie.Need-returns-2
+unfolding stepOf judgementAt
+returns-2 c = ap (λ (x : code.Step). x .judgement) (c .step .ensures)
+
+pub judgement-spec : {M : Type 1} → statement M
+judgement-spec = tie.close (tie.spec returns (λ c κs. search needs) returns-2)

@@ -1,0 +1,105 @@
+// Entries, actions and steps of a file whose layout was checked, each as the file that was read has it. A number that names none gives what
+// the definitions have there.
+use crate::ActionEntry;
+use crate::BasicEntry;
+use crate::Index;
+use crate::Judgement;
+use crate::Places;
+use crate::StateEntry;
+use crate::Step;
+use crate::views::action_at;
+use crate::views::action_entry;
+use crate::views::state_entry;
+use crate::views::step_in;
+use bytes::u16_at;
+use task::Action;
+ghost use mathlib.Core.Path.{_≡_};
+ghost use Prim.Native.Nat.{_<_};
+ghost use lib.ListN.{length};
+ghost use Rattle.task.specs.Task.{actionAt};
+ghost use Rattle.meaning.specs.File.{actionSetAt, stateSetAt, stepAt};
+ghost use Rattle.certificate.specs.Views.{viewOf, viewOfActions, stepOf, judgementAt};
+ghost use Rattle.certificate.specs.Index.{statePlace, actionPlace};
+ghost use Rattle.certificate.specs.Known.{decoded, IsRead, Known, Placed};
+
+// The place of a state set; 0 where the number names none.
+fn state_place(index: &Index, e: u16) -> u16
+    ensures { λ r. ⌜ r ≡ statePlace (now (index .entry)) e ⌝ }
+{
+    if e < 512 { index[256 + e as usize] } else { 0 }
+}
+
+// The place of an action set; 0 where the number names none.
+fn action_place(index: &Index, a: u16) -> u16
+    ensures { λ r. ⌜ r ≡ actionPlace (now (index .entry)) a ⌝ }
+{
+    if a < 256 { index[a as usize] } else { 0 }
+}
+
+// The state set with a number; the empty set where the number names none.
+pub fn state_set(file: &[u8], index: &Index, e: u16) -> StateEntry
+    requires { ⌜ Known (now file) (now index) ⌝ }
+    ensures { λ r. ⌜ r ≡ viewOf (statePlace (now (index .entry)) e) (stateSetAt (decoded (now (file .entry))) e) ⌝ }
+{
+    let place = state_place(index, e);
+    if place == 0 {
+        return StateEntry::Basic(BasicEntry::Empty);
+    }
+    state_entry(file, place)
+}
+
+// The action set with a number; all actions where the number names none.
+pub fn action_set(file: &[u8], index: &Index, a: u16) -> ActionEntry
+    requires { ⌜ Known (now file) (now index) ⌝ }
+    ensures { λ r. ⌜ r ≡ viewOfActions (actionPlace (now (index .entry)) a) (actionSetAt (decoded (now (file .entry))) a) ⌝ }
+{
+    let place = action_place(index, a);
+    if place == 0 {
+        return ActionEntry::All;
+    }
+    action_entry(file, place)
+}
+
+// How many actions the task has.
+pub fn action_count(file: &[u8]) -> u16
+    requires { ⌜ IsRead (now file) ⌝ }
+    ensures { λ r. ⌜ r ≡ length (decoded (now (file .entry)) .task .actions) ⌝ }
+{
+    u16_at(file, 22)
+}
+
+// The action with a number; one that does nothing where the number names none.
+pub fn action(file: &[u8], i: u16) -> Action
+    requires { ⌜ IsRead (now file) ⌝ }
+    ensures { λ r. ⌜ r ≡ actionAt (decoded (now (file .entry)) .task) i ⌝ }
+{
+    if action_count(file) <= i {
+        return Action {
+            pre: 0,
+            add: 0,
+            del: 0,
+        };
+    }
+    action_at(file, i)
+}
+
+// The step with a number.
+pub fn step(file: &[u8], at: Places, k: u16) -> Step
+    requires { ⌜ Placed (now file) at ⌝ }
+    requires { ⌜ k < at .steps ⌝ }
+    ensures { λ r. ⌜ r ≡ stepOf (stepAt (decoded (now (file .entry))) k) ⌝ }
+{
+    let p = at.steps_at + 12 * k as u32;
+    step_in(file, p)
+}
+
+// What the step with a number says; that entry 0 is dead where the number names none.
+pub fn judgement(file: &[u8], at: Places, k: u16) -> Judgement
+    requires { ⌜ Placed (now file) at ⌝ }
+    ensures { λ r. ⌜ r ≡ judgementAt (decoded (now (file .entry))) k ⌝ }
+{
+    if at.steps <= k {
+        return Judgement::Dead(0);
+    }
+    step(file, at, k).judgement
+}
