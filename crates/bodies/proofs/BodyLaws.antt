@@ -9,14 +9,16 @@ use lib.ListN.{length}
 use lib.Dec.{leb, ltb}
 use borrow.Author.Tests.{le-leb, lt-leb, lt-ltb, leb-true, leb-false, not-true, not-false}
 use Rattle.bodies.specs.declared.Form.{Form}
-use Rattle.bodies.specs.declared.Verdict.{Verdict}
-use Rattle.bodies.specs.declared.Verdict.the-variants.{Fine, Refused}
+use Rattle.bodies.specs.declared.Fault.{Fault}
+use Rattle.bodies.specs.declared.Fault.the-variants.{None, At}
 use Rattle.meaning.specs.declared.Clause.{Clause}
 use Rattle.meaning.specs.Result.{Result, refuse, found}
 use Rattle.bytes.specs.Numbers.{numberAt}
 use Rattle.meaning.specs.Layout.{items, ascending, mask, clause}
-use Rattle.bodies.specs.Verdicts.{verdictFrom, ruleOf, formFits, formBody}
-use Rattle.bodies.proofs.Verdicts.{forget, from-fine, from-refused, none-yet, items-next, items-stop, items-end, ascending-next, ascending-stop, ascending-low, ascending-end}
+use Rattle.bodies.specs.Faults.{faultFrom, formFits, formBody}
+use Rattle.bytes.specs.ClauseRule.{clauseRule}
+use Rattle.bodies.proofs.Faults.{forget, from-fine, from-refused, none-yet, items-next, items-stop, items-end, ascending-next}
+use Rattle.bodies.proofs.Faults.{ascending-stop, ascending-low, ascending-end}
 use Rattle.bodies.proofs.FieldLaws.{Top, mask-in, mask-high, clause-first, clause-second, clause-bad, clause-in}
 
 -- ---- numbers that ascend
@@ -30,16 +32,17 @@ module _ (read : ℕ → Result ℕ) (size count start : ℕ) where
   numbers-start = none-yet (λ (k : ℕ). forget (ascending read size 0 0 k)) count
 
   module _ (i low p : ℕ) (left : AscendingLeft read size count low p i) where
-    pub numbers-end : count ≤ i → Fine ≡ verdictFrom start (ascending read size 0 0 count)
+    pub numbers-end : count ≤ i → None ≡ faultFrom start (ascending read size 0 0 count)
     numbers-end h = from-fine start (ascending read size 0 0 count) (sym left ∙ ascending-end read size count i low p h)
 
     module _ (h : i < count) where
-      pub number-bad : {r q : ℕ} → read p ≡ refuse r q → Refused r (start + q) ≡ verdictFrom start (ascending read size 0 0 count)
+      pub number-bad : {r q : ℕ} → read p ≡ refuse r q → At r (start + q) ≡ faultFrom start (ascending read size 0 0 count)
       number-bad f = from-refused start (ascending read size 0 0 count) _ _ (sym left ∙ ascending-stop read size count i low p h f)
 
       module _ {x : ℕ} (f : read p ≡ found x) where
-        pub number-low : x < low → Refused 7 (start + p) ≡ verdictFrom start (ascending read size 0 0 count)
-        number-low l = from-refused start (ascending read size 0 0 count) _ _ (sym left ∙ ascending-low read size count i low p h f (lt-leb low x l))
+        pub number-low : x < low → At 7 (start + p) ≡ faultFrom start (ascending read size 0 0 count)
+        number-low l =
+            from-refused start (ascending read size 0 0 count) _ _ (sym left ∙ ascending-low read size count i low p h f (lt-leb low x l))
 
         pub number-next : (low′ q : ℕ) → low ≤ x → p + size ≡ q → suc x ≡ low′ → AscendingLeft read size count low′ q (i + 1)
         number-next low′ q l e e′ =
@@ -67,11 +70,12 @@ low-holds (suc i) last x e = omega (arith, leb-false x last (sym (ap (λ b. b &&
 
 -- the clauses from number i on say what all of them say
 abbrev pub ClausesLeft : List ℕ → ℕ → Bool → ℕ → ℕ → Type 0
-ClausesLeft part n two count i = forget (items (clause part n (ruleOf two)) 16 (16 * i) (count - i)) ≡ forget (items (clause part n (ruleOf two)) 16 0 count)
+ClausesLeft part n two count i =
+    forget (items (clause part n (clauseRule two)) 16 (16 * i) (count - i)) ≡ forget (items (clause part n (clauseRule two)) 16 0 count)
 
 module _ (part : List ℕ) (n : ℕ) (two : Bool) (start : ℕ) where
   abbrev R : ℕ → Result Clause
-  R = clause part n (ruleOf two)
+  R = clause part n (clauseRule two)
 
   abbrev count : ℕ
   count = length part / 16
@@ -80,35 +84,36 @@ module _ (part : List ℕ) (n : ℕ) (two : Bool) (start : ℕ) where
   clauses-start = none-yet (λ (k : ℕ). forget (items R 16 0 k)) count
 
   module _ (i : ℕ) (left : ClausesLeft part n two count i) where
-    pub clauses-end : count ≤ i → Fine ≡ verdictFrom start (items R 16 0 count)
+    pub clauses-end : count ≤ i → None ≡ faultFrom start (items R 16 0 count)
     clauses-end h = from-fine start (items R 16 0 count) (sym left ∙ items-end R 16 count i (16 * i) h)
 
     module _ (h : i < count) (top : ℕ) (t : Top top n) {a : ℕ} (e : a ≡ numberAt 8 part (16 * i)) (w : a < 2 ^ 64) where
-      stop : {r q : ℕ} → R (16 * i) ≡ refuse r q → Refused r (start + q) ≡ verdictFrom start (items R 16 0 count)
+      stop : {r q : ℕ} → R (16 * i) ≡ refuse r q → At r (start + q) ≡ faultFrom start (items R 16 0 count)
       stop f = from-refused start (items R 16 0 count) _ _ (sym left ∙ items-stop R 16 count i (16 * i) h f)
 
-      pub clause-positive : top < a → Refused 5 (start + 16 * i) ≡ verdictFrom start (items R 16 0 count)
-      clause-positive g = stop (clause-first part (16 * i) n (ruleOf two) (mask-high part (16 * i) top n t e w (omega arith) g))
+      pub clause-positive : top < a → At 5 (start + 16 * i) ≡ faultFrom start (items R 16 0 count)
+      clause-positive g = stop (clause-first part (16 * i) n (clauseRule two) (mask-high part (16 * i) top n t e w (omega arith) g))
 
       module _ (g : a ≤ top) {b : ℕ} (e′ : b ≡ numberAt 8 part (16 * i + 8)) (w′ : b < 2 ^ 64) where
         first : mask part n (16 * i) ≡ found a
         first = mask-in part (16 * i) top n t e w (omega arith) g
 
-        pub clause-negative : top < b → Refused 5 (start + 16 * i + 8) ≡ verdictFrom start (items R 16 0 count)
+        pub clause-negative : top < b → At 5 (start + 16 * i + 8) ≡ faultFrom start (items R 16 0 count)
         clause-negative g′ =
-            ap (λ (p : ℕ). Refused 5 p) (omega arith)
-            ∙ stop (clause-second part (16 * i) n (ruleOf two) first (mask-high part (16 * i + 8) top n t e′ w′ (omega arith) g′))
+            ap (λ (p : ℕ). At 5 p) (omega arith)
+            ∙ stop (clause-second part (16 * i) n (clauseRule two) first (mask-high part (16 * i + 8) top n t e′ w′ (omega arith) g′))
 
-        module _ (g′ : b ≤ top) {r : Bool} (q : r ≡ ruleOf two a b) where
+        module _ (g′ : b ≤ top) {r : Bool} (q : r ≡ clauseRule two a b) where
           second : mask part n (16 * i + 8) ≡ found b
           second = mask-in part (16 * i + 8) top n t e′ w′ (omega arith) g′
 
-          pub clause-rule : not r ≡ true → Refused 7 (start + 16 * i) ≡ verdictFrom start (items R 16 0 count)
-          clause-rule s = stop (clause-bad part (16 * i) n (ruleOf two) first second (sym q ∙ not-true r s))
+          pub clause-rule : not r ≡ true → At 7 (start + 16 * i) ≡ faultFrom start (items R 16 0 count)
+          clause-rule s = stop (clause-bad part (16 * i) n (clauseRule two) first second (sym q ∙ not-true r s))
 
           pub clause-next : not r ≡ false → ClausesLeft part n two count (i + 1)
           clause-next s =
-              sym (items-next R 16 count i (16 * i) (16 * (i + 1)) h (omega arith) (clause-in part (16 * i) n (ruleOf two) first second (sym q ∙ not-false r s)))
+              sym (items-next R 16 count i (16 * i) (16 * (i + 1)) h (omega arith)
+              (clause-in part (16 * i) n (clauseRule two) first second (sym q ∙ not-false r s)))
               ∙ left
 
 -- ---- a form that is known
@@ -117,6 +122,6 @@ module _ {f g : Form} (e : f ≡ g) where
   pub form-fits : (len : ℕ) → formFits f len ≡ true → formFits g len ≡ true
   form-fits len t = ap (λ (h : Form). formFits h len) (sym e) ∙ t
 
-  pub form-says : (part : List ℕ) (n start : ℕ) {v : Verdict} → v ≡ verdictFrom start (formBody part n g 0 (length part))
-      → v ≡ verdictFrom start (formBody part n f 0 (length part))
-  form-says part n start y = y ∙ ap (λ (h : Form). verdictFrom start (formBody part n h 0 (length part))) (sym e)
+  pub form-says : (part : List ℕ) (n start : ℕ) {v : Fault} → v ≡ faultFrom start (formBody part n g 0 (length part))
+      → v ≡ faultFrom start (formBody part n f 0 (length part))
+  form-says part n start y = y ∙ ap (λ (h : Form). faultFrom start (formBody part n h 0 (length part))) (sym e)

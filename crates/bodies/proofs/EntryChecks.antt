@@ -9,15 +9,15 @@ use mathlib.Core.List.{List}
 use lib.ListN.{length, take, drop, getElem?}
 use borrow.Author.Tests.{le-leb, lt-leb, not-true, not-false}
 use Rattle.bodies.specs.declared.Form.{Form}
-use Rattle.bodies.specs.declared.Verdict.{Verdict}
-use Rattle.bodies.specs.declared.Verdict.the-variants.{Refused}
+use Rattle.bodies.specs.declared.Fault.{Fault}
+use Rattle.bodies.specs.declared.Fault.the-variants.{At}
 use Rattle.meaning.specs.Result.{Result, refuse, found, _>>=_, known}
 use Rattle.meaning.specs.Bytes.{number, inside}
 use Rattle.bytes.specs.Numbers.{numberAt}
 use Rattle.meaning.specs.Layout.{Kind, field, entry}
-use Rattle.bodies.specs.Verdicts.{verdict, verdictFrom, formKnown, formFits, formBody, formAt}
+use Rattle.bodies.specs.Faults.{fault, faultFrom, formKnown, formFits, formBody, formAt}
 use Rattle.bytes.proofs.ByteLaws.{inside-out, number-in}
-use Rattle.bodies.proofs.Verdicts.{forget, told, told-refused, goes-on, stops, passed, failed}
+use Rattle.bodies.proofs.Faults.{forget, told, told-refused, goes-on, stops, passed, failed}
 use Rattle.bodies.proofs.FieldLaws.{field-in}
 use Rattle.bodies.proofs.FormLaws.{Same, Alike, no-kind, kind-of}
 use Rattle.bodies.proofs.PartLaws.{part-length, part-says}
@@ -41,7 +41,8 @@ pub record Kinded (bytes : List ℕ) (forms : List Form) (p len : ℕ) (f : Form
   pub kind : formAt forms (number 1 bytes (p + 2)) ≡ f
   pub listed : formKnown f ≡ true
 
-len-read : (bytes : List ℕ) (p : ℕ) {t : Bool} → t ≡ inside 2 bytes p → not t ≡ false → {len : ℕ} → len ≡ numberAt 2 bytes p → field bytes 2 p ≡ found len
+len-read : (bytes : List ℕ) (p : ℕ) {t : Bool} → t ≡ inside 2 bytes p → not t ≡ false → {len : ℕ} → len ≡ numberAt 2 bytes p
+    → field bytes 2 p ≡ found len
 len-read bytes p {t} q s e = field-in bytes p 2 (inside-out 2 bytes p (sym q ∙ not-false t s)) e
 
 pub begun : (bytes : List ℕ) (p : ℕ) {t : Bool} → t ≡ inside 2 bytes p → not t ≡ false → {len : ℕ} → len ≡ numberAt 2 bytes p
@@ -53,38 +54,41 @@ entry-ends {bytes} {p} {len} b = inside-out (2 + len) bytes p (b .whole)
 
 kind-read : {bytes : List ℕ} {p len : ℕ} → Begun bytes p len → (forms : List Form) → 1 ≤ len → {k : ℕ} → k ≡ numberAt 1 bytes (p + 2)
     → {f : Form} → f ≡ formAt forms k → formAt forms (number 1 bytes (p + 2)) ≡ f
-kind-read {bytes} {p} b forms l e ef = ap (formAt forms) (sym (e ∙ number-in 1 bytes (p + 2) (let h = entry-ends b in omega arith))) ∙ sym ef
+kind-read {bytes} {p} b forms l e ef =
+    ap (formAt forms) (sym (e ∙ number-in 1 bytes (p + 2) (let h = entry-ends b in omega arith))) ∙ sym ef
 
 pub kinded : {bytes : List ℕ} {p len : ℕ} → Begun bytes p len → (forms : List Form) → 1 ≤ len → {k : ℕ} → k ≡ numberAt 1 bytes (p + 2)
     → {f : Form} → f ≡ formAt forms k → {v : Bool} → v ≡ formKnown f → not v ≡ false → Kinded bytes forms p len f
 kinded b forms l e ef {v} qv x = record { some-bytes = l; kind = kind-read b forms l e ef; listed = sym qv ∙ not-false v x }
 
-module _ (bytes : List ℕ) (n : ℕ) {A : Type 0} (kinds : List (Kind A)) (forms : List Form) (alike : Alike bytes n kinds forms) (p : ℕ) where
-  refused : {r q : ℕ} → entry bytes kinds p ≡ refuse r q → Refused r q ≡ verdict (entry bytes kinds p)
+module _ (bytes : List ℕ) (n : ℕ) {A : Type 0} (kinds : List (Kind A)) (forms : List Form) (alike : Alike bytes n kinds forms)
+    (p : ℕ) where
+  refused : {r q : ℕ} → entry bytes kinds p ≡ refuse r q → At r q ≡ fault (entry bytes kinds p)
   refused e = told-refused (entry bytes kinds p) _ _ (ap forget e)
 
   module _ {t : Bool} (q : t ≡ inside 2 bytes p) where
-    pub entry-cut : not t ≡ true → Refused 3 p ≡ verdict (entry bytes kinds p)
+    pub entry-cut : not t ≡ true → At 3 p ≡ fault (entry bytes kinds p)
     unfolding entry field
     entry-cut s = refused (stops _ (failed 3 p _ (sym q ∙ not-true t s)))
 
     pub entry-past : not t ≡ false → {len : ℕ} → len ≡ numberAt 2 bytes p → {u : Bool} → u ≡ inside (2 + len) bytes p → not u ≡ true
-        → Refused 3 p ≡ verdict (entry bytes kinds p)
+        → At 3 p ≡ fault (entry bytes kinds p)
     unfolding entry
     entry-past s e {u} q′ s′ = refused (goes-on _ (len-read bytes p q s e) ∙ failed 3 p _ (sym q′ ∙ not-true u s′))
 
   module _ {len : ℕ} (b : Begun bytes p len) where
-    pub entry-none : len < 1 → Refused 4 p ≡ verdict (entry bytes kinds p)
+    pub entry-none : len < 1 → At 4 p ≡ fault (entry bytes kinds p)
     unfolding entry
     entry-none l = refused (goes-on _ (b .read) ∙ passed 3 p _ (b .whole) ∙ failed 4 p _ (lt-leb 1 len l))
 
     pub entry-unknown : 1 ≤ len → {k : ℕ} → k ≡ numberAt 1 bytes (p + 2) → {f : Form} → f ≡ formAt forms k → {v : Bool} → v ≡ formKnown f
-        → not v ≡ true → Refused 4 (p + 2) ≡ verdict (entry bytes kinds p)
+        → not v ≡ true → At 4 (p + 2) ≡ fault (entry bytes kinds p)
     unfolding entry
     entry-unknown l e ef {v} qv x =
         refused
         (goes-on _ (b .read) ∙ passed 3 p _ (b .whole) ∙ passed 4 p _ (le-leb 1 len l)
-        ∙ no-known 4 (p + 2) _ (no-kind bytes n kinds forms alike (number 1 bytes (p + 2)) (ap formKnown (kind-read b forms l e ef) ∙ sym qv ∙ not-true v x)))
+        ∙ no-known 4 (p + 2) _ (no-kind bytes n kinds forms alike (number 1 bytes (p + 2)) (ap formKnown (kind-read b forms l e ef)
+        ∙ sym qv ∙ not-true v x)))
 
     module _ {f : Form} (k : Kinded bytes forms p len f) {w : Bool} (qw : w ≡ formFits f (len - 1)) where
       the-kind : (k : Kind A) × (getElem? kinds (number 1 bytes (p + 2)) ≡ some k) × Same bytes n k (formAt forms (number 1 bytes (p + 2)))
@@ -93,7 +97,7 @@ module _ (bytes : List ℕ) (n : ℕ) {A : Type 0} (kinds : List (Kind A)) (form
       fits-same : the-kind .0 .fits (len - 1) ≡ w
       fits-same = the-kind .2 .fits (len - 1) ∙ ap (λ (g : Form). formFits g (len - 1)) (k .kind) ∙ sym qw
 
-      pub entry-unfit : not w ≡ true → Refused 4 p ≡ verdict (entry bytes kinds p)
+      pub entry-unfit : not w ≡ true → At 4 p ≡ fault (entry bytes kinds p)
       unfolding entry
       entry-unfit y =
           refused
@@ -117,14 +121,15 @@ module _ (bytes : List ℕ) (n : ℕ) {A : Type 0} (kinds : List (Kind A)) (form
 
       -- the body, as a part of the file from place p + 3 to the entry's end
       pub entry-body : not w ≡ false → (size : ℕ) → size ≡ len - 1
-          → {r : Verdict} → r ≡ verdictFrom (p + 3) (formBody (take size (drop (p + 3) bytes)) n f 0 (length (take size (drop (p + 3) bytes))))
-          → r ≡ verdict (entry bytes kinds p)
+          → {r : Fault} → r ≡ faultFrom (p + 3) (formBody (take size (drop (p + 3) bytes)) n f 0 (length (take size (drop (p + 3) bytes))))
+          → r ≡ fault (entry bytes kinds p)
       entry-body y size z r =
           let h = entry-ends b in
           let l = k .some-bytes in
           r
           ∙ part-says bytes (p + 3) size (omega arith) n f (ap (formFits f) z ∙ sym qw ∙ not-false w y)
-          ∙ ap (λ (j : ℕ). verdict (formBody bytes n f (p + 3) j)) z
-          ∙ ap (λ (g : Form). verdict (formBody bytes n g (p + 3) (len - 1))) (sym (k .kind))
-          ∙ told (formBody bytes n (formAt forms (number 1 bytes (p + 2))) (p + 3) (len - 1)) (the-kind .0 .body (p + 3) (len - 1)) (sym (the-kind .2 .body (p + 3) (len - 1)))
-          ∙ ap verdict (sym (entry-is y))
+          ∙ ap (λ (j : ℕ). fault (formBody bytes n f (p + 3) j)) z
+          ∙ ap (λ (g : Form). fault (formBody bytes n g (p + 3) (len - 1))) (sym (k .kind))
+          ∙ told (formBody bytes n (formAt forms (number 1 bytes (p + 2))) (p + 3) (len - 1)) (the-kind .0 .body (p + 3) (len - 1))
+          (sym (the-kind .2 .body (p + 3) (len - 1)))
+          ∙ ap fault (sym (entry-is y))

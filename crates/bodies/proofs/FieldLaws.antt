@@ -1,22 +1,22 @@
 -- What a field, a mask, a reference or a clause reads, from the number that stands there.
 -- Assumes nothing.
 use mathlib.Core.Path.{_≡_, sym, ap, _∙_}
-use Prim.Native.Nat.{ℕ, _+_, _^_, _≤_, _<_}
+use Prim.Native.Nat.{ℕ, _+_, _-_, _^_, _≤_, _<_, min}
 use mathlib.Core.Bool.{Bool, true, false, not}
 use mathlib.Core.List.{List}
 use lib.ListN.{length}
-use lib.Dec.{leb, ltb}
 use borrow.Author.Tests.{le-leb, lt-leb, lt-ltb, le-ltb, not-true}
 use Rattle.meaning.specs.Result.{refuse, found}
 use Rattle.meaning.specs.Bytes.{inside}
 use Rattle.bytes.specs.Numbers.{numberAt}
 use Rattle.meaning.specs.Layout.{field, mask, reference, clause}
+use Rattle.task.proofs.MaskLaws.{within-all}
 use Rattle.bytes.proofs.ByteLaws.{inside-in, number-in}
-use Rattle.bodies.proofs.Verdicts.{goes-on, stops, passed, failed}
+use Rattle.bodies.proofs.Faults.{goes-on, stops, passed, failed}
 
--- `top` is the largest mask over n facts, among words
+-- `top` is the mask of the first n facts
 abbrev pub Top : ℕ → ℕ → Type 0
-Top top n = (m : ℕ) → m < 2 ^ 64 → leb m top ≡ ltb m (2 ^ n)
+Top top n = top ≡ 2 ^ min n 64 - 1
 
 module _ (f : List ℕ) (p : ℕ) where
   pub field-in : (k : ℕ) {x : ℕ} → p + k ≤ length f → x ≡ numberAt k f p → field f k p ≡ found x
@@ -27,11 +27,11 @@ module _ (f : List ℕ) (p : ℕ) where
   module _ (top n : ℕ) {x : ℕ} (t : Top top n) (e : x ≡ numberAt 8 f p) (w : x < 2 ^ 64) where
     pub mask-in : p + 8 ≤ length f → x ≤ top → mask f n p ≡ found x
     unfolding mask
-    mask-in h l = goes-on _ (field-in 8 h e) ∙ passed 5 p _ (sym (t x w) ∙ le-leb x top l)
+    mask-in h l = goes-on _ (field-in 8 h e) ∙ passed 5 p _ (sym (within-all n t x w) ∙ le-leb x top l)
 
     pub mask-high : p + 8 ≤ length f → top < x → mask f n p ≡ refuse 5 p
     unfolding mask
-    mask-high h l = goes-on _ (field-in 8 h e) ∙ failed 5 p _ (sym (t x w) ∙ lt-leb x top l)
+    mask-high h l = goes-on _ (field-in 8 h e) ∙ failed 5 p _ (sym (within-all n t x w) ∙ lt-leb x top l)
 
   pub mask-cut : (n : ℕ) {t : Bool} → t ≡ inside 8 f p → not t ≡ true → mask f n p ≡ refuse 3 p
   unfolding mask field

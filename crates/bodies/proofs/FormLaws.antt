@@ -11,9 +11,11 @@ use Rattle.bodies.specs.declared.Form.{Form}
 use Rattle.bodies.specs.declared.Form.the-variants.{Bare, One, Two}
 use Rattle.bodies.specs.declared.Section.{Section}
 use Rattle.meaning.specs.Result.{Result, refuse, found, _>>=_}
-use Rattle.meaning.specs.Layout.{items, ascending, mask, reference, clause, Kind, plain, one, two, clauses, actionKinds, stateKinds, hornRule, twoCnfRule}
-use Rattle.bodies.specs.Verdicts.{ruleOf, formKnown, formFits, formBody, formAt, actionForms, stateForms, formsBy, formsOf, setsBy, setsOf}
-use Rattle.bodies.proofs.Verdicts.{forget}
+use Rattle.meaning.specs.Layout.{items, ascending, mask, reference, clause, Kind, plain, one, two, clauses, actionKinds, stateKinds}
+use Rattle.meaning.specs.Layout.{hornRule, twoCnfRule}
+use Rattle.bodies.specs.Faults.{formKnown, formFits, formBody, formAt, actionForms, stateForms, formsBy, formsOf, setsBy, setsOf}
+use Rattle.bytes.specs.ClauseRule.{clauseRule}
+use Rattle.bodies.proofs.Faults.{forget}
 
 -- a number that is at least i, and not i
 pub next : {k : ℕ} (i : ℕ) → i ≤ k → (k ≡ i → ⊥) → suc i ≤ k
@@ -36,7 +38,8 @@ module _ (bytes : List ℕ) (n : ℕ) where
     -- no kind has the number where no form has it
     pub no-kind : (ks : List (Kind A)) (fs : List Form) → Alike ks fs → (j : ℕ) → formKnown (formAt fs j) ≡ false → getElem? ks j ≡ none
     no-kind [] [] end j e = refl
-    no-kind (k ∷ ks) (f ∷ fs) (s & a) zero e = let z : true ≡ false = sym (s .known) ∙ e in let y : _≡_ {A = ℕ} 0 1 = cc in absurd (omega arith)
+    no-kind (k ∷ ks) (f ∷ fs) (s & a) zero e =
+        let z : true ≡ false = sym (s .known) ∙ e in let y : _≡_ {A = ℕ} 0 1 = cc in absurd (omega arith)
     no-kind (k ∷ ks) (f ∷ fs) (s & a) (suc j) e = no-kind ks fs a j e
 
     -- the kind with the number of a form
@@ -70,7 +73,8 @@ module _ (bytes : List ℕ) (n : ℕ) where
 
   same-two : {A : Type 0} (make : ℕ → ℕ → A) (a b : ℕ) → Same (two bytes make a b) (Two a b)
   unfolding two
-  same-two make a b = record { known = refl; fits = λ len. refl; body = λ p len. two-kept (reference bytes a p) (reference bytes b (p + 2)) _ _ }
+  same-two make a b =
+      record { known = refl; fits = λ len. refl; body = λ p len. two-kept (reference bytes a p) (reference bytes b (p + 2)) _ _ }
 
   pub actions-alike : (m i : ℕ) → Alike (actionKinds bytes m i) (actionForms m i)
   unfolding actionKinds
@@ -81,7 +85,7 @@ module _ (bytes : List ℕ) (n : ℕ) where
       & end
 
   pub states-alike : (m i : ℕ) → Alike (stateKinds bytes n m i) (stateForms m i)
-  unfolding stateKinds clauses ruleOf
+  unfolding stateKinds clauses clauseRule
   states-alike m i =
       same-plain _
       & same-plain _

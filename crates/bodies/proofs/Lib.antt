@@ -1,7 +1,7 @@
 pub mod BodyLaws
 pub mod FieldLaws
 pub mod FormLaws
-pub mod MaskLaws
+pub mod CountLaws
 pub mod PartLaws
-pub mod Verdicts
+pub mod Faults
 pub mod EntryChecks

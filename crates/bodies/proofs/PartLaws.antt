@@ -15,9 +15,10 @@ use Rattle.bodies.specs.declared.Form.the-variants.{Unknown, Bare, Numbe
 use Rattle.meaning.specs.Result.{Result, refuse, found, _>>=_, need}
 use Rattle.meaning.specs.Bytes.{bigEndian, number}
 use Rattle.meaning.specs.Layout.{items, ascending, field, mask, reference, clause}
-use Rattle.bodies.specs.Verdicts.{verdict, verdictFrom, ruleOf, formFits, formBody}
+use Rattle.bodies.specs.Faults.{fault, faultFrom, formFits, formBody}
+use Rattle.bytes.specs.ClauseRule.{clauseRule}
 use Rattle.bytes.proofs.ByteLaws.{inside-in}
-use Rattle.bodies.proofs.Verdicts.{passed}
+use Rattle.bodies.proofs.Faults.{passed}
 
 -- a reading, with the place of its refusal moved by d
 abbrev moved : {A : Type 0} → ℕ → Result A → Result A
@@ -36,9 +37,9 @@ module _ (d : ℕ) where
   moved-need true n p = refl
   moved-need false n p = refl
 
-  moved-told : {A : Type 0} (r r′ : Result A) → moved d r ≡ r′ → verdictFrom d r ≡ verdict r′
-  moved-told (refuse n p) r′ e = ap verdict e
-  moved-told (found a) r′ e = ap verdict e
+  moved-told : {A : Type 0} (r r′ : Result A) → moved d r ≡ r′ → faultFrom d r ≡ fault r′
+  moved-told (refuse n p) r′ e = ap fault e
+  moved-told (found a) r′ e = ap fault e
 
 -- the bytes from place d on, `len` of them
 module _ (bytes : List ℕ) (d len : ℕ) (h : d + len ≤ length bytes) where
@@ -73,12 +74,15 @@ module _ (bytes : List ℕ) (d len : ℕ) (h : d + len ≤ length bytes) where
 
   near-mask : (n : ℕ) → Near 8 (mask part n) (mask bytes n)
   unfolding mask
-  near-mask n q l = moved-bind d (field part 8 q) _ _ (near-field 8 q l) (λ m. moved-bind d (need _ 5 q) _ _ (moved-need d (ltb m (2 ^ n)) 5 q) (λ _. refl))
+  near-mask n q l =
+      moved-bind d (field part 8 q) _ _ (near-field 8 q l) (λ m. moved-bind d (need _ 5 q) _ _ (moved-need d (ltb m (2 ^ n)) 5 q)
+      (λ _. refl))
 
   near-reference : (bound : ℕ) → Near 2 (reference part bound) (reference bytes bound)
   unfolding reference
   near-reference bound q l =
-      moved-bind d (field part 2 q) _ _ (near-field 2 q l) (λ m. moved-bind d (need _ 6 q) _ _ (moved-need d (ltb m bound) 6 q) (λ _. refl))
+      moved-bind d (field part 2 q) _ _ (near-field 2 q l) (λ m. moved-bind d (need _ 6 q) _ _ (moved-need d (ltb m bound) 6 q)
+      (λ _. refl))
 
   near-clause : (n : ℕ) (rule : ℕ → ℕ → Bool) → Near 16 (clause part n rule) (clause bytes n rule)
   unfolding clause
@@ -109,7 +113,8 @@ module _ (bytes : List ℕ) (d len : ℕ) (h : d + len ≤ length bytes) where
       moved-bind d (read q) _ _ (near q (omega arith)) (λ x.
       moved-bind d (need _ 7 q) _ _ (moved-need d (leb low x) 7 q) (λ _.
       moved-bind d (ascending read size (suc x) (q + size) k) _ _
-      (near-ascending read read′ size near k (suc x) (q + size) (omega arith) ∙ ap (λ (p : ℕ). ascending read′ size (suc x) p k) e) (λ _. refl)))
+      (near-ascending read read′ size near k (suc x) (q + size) (omega arith)
+      ∙ ap (λ (p : ℕ). ascending read′ size (suc x) p k) e) (λ _. refl)))
 
   near-body : (n : ℕ) (f : Form) → formFits f len ≡ true → moved d (formBody part n f 0 len) ≡ formBody bytes n f (d + 0) len
   near-body n Unknown t = refl
@@ -121,8 +126,9 @@ module _ (bytes : List ℕ) (d len : ℕ) (h : d + len ≤ length bytes) where
       moved-bind d (ascending (mask part n) 8 0 0 (len / 8)) _ _
       (near-ascending (mask part n) (mask bytes n) 8 (near-mask n) (len / 8) 0 0 (omega arith)) (λ _. refl)
   near-body n (Clauses two) t =
-      moved-bind d (items (clause part n (ruleOf two)) 16 0 (len / 16)) _ _
-      (near-items (clause part n (ruleOf two)) (clause bytes n (ruleOf two)) 16 (near-clause n (ruleOf two)) (len / 16) 0 (omega arith)) (λ _. refl)
+      moved-bind d (items (clause part n (clauseRule two)) 16 0 (len / 16)) _ _
+      (near-items (clause part n (clauseRule two)) (clause bytes n (clauseRule two)) 16 (near-clause n (clauseRule two)) (len / 16) 0
+      (omega arith)) (λ _. refl)
   near-body n (One a) t =
       let l = eqb-true len 2 t in moved-bind d (reference part a 0) _ _ (near-reference a 0 (omega arith)) (λ _. refl)
   near-body n (Two a b) t =
@@ -132,9 +138,10 @@ module _ (bytes : List ℕ) (d len : ℕ) (h : d + len ≤ length bytes) where
       moved-bind d (reference part b 2) _ _ (near-reference b 2 (omega arith) ∙ ap (reference bytes b) e) (λ _. refl))
 
   -- a body that fits its form says what the file says there
-  pub part-says : (n : ℕ) (f : Form) → formFits f len ≡ true → verdictFrom d (formBody part n f 0 (length part)) ≡ verdict (formBody bytes n f d len)
+  pub part-says : (n : ℕ) (f : Form) → formFits f len ≡ true
+      → faultFrom d (formBody part n f 0 (length part)) ≡ fault (formBody bytes n f d len)
   part-says n f t =
       let e : d + 0 ≡ d = omega arith in
-      ap (λ (l : ℕ). verdictFrom d (formBody part n f 0 l)) part-length
+      ap (λ (l : ℕ). faultFrom d (formBody part n f 0 l)) part-length
       ∙ moved-told d (formBody part n f 0 len) _ (near-body n f t)
-      ∙ ap (λ (p : ℕ). verdict (formBody bytes n f p len)) e
+      ∙ ap (λ (p : ℕ). fault (formBody bytes n f p len)) e

@@ -2,19 +2,21 @@
 use bytes::u16_at;
 use bytes::u64_at;
 use reader::entry_head;
+use task::all_facts;
 ghost use mathlib.Core.Path.{_≡_};
 ghost use mathlib.Core.Bool.{true};
-ghost use Prim.Native.Nat.{ℕ, _+_, _/_, _^_, _<_, _≤_};
-ghost use lib.Dec.{leb, ltb};
+ghost use Prim.Native.Nat.{_+_, _/_, _<_, _≤_};
 ghost use lib.ListN.{length};
 ghost use Rattle.meaning.specs.Bytes.{inside};
 ghost use Rattle.meaning.specs.Layout.{items, ascending, mask, reference, clause, upTo, entry};
-ghost use Rattle.bodies.specs.Verdicts.{verdict, verdictFrom, ruleOf, formKnown, formFits, formBody, actionForms, stateForms, formsOf, formAt, setsOf};
+ghost use Rattle.bytes.specs.ClauseRule.{clauseRule};
+ghost use Rattle.bodies.specs.Faults.{fault, faultFrom, setsOf};
+ghost use Rattle.bodies.specs.Faults.{formKnown, formFits, formBody, actionForms, stateForms, formsOf, formAt};
 
 // What a reader says: no fault, or document 01's number and place.
-pub enum Verdict {
-    Fine,
-    Refused { number: u8, place: u32 },
+pub enum Fault {
+    None,
+    At { number: u8, place: u32 },
 }
 
 // What an entry's body holds, by its kind.
@@ -46,20 +48,9 @@ pub fn inside(file: &[u8], k: usize, at: usize) -> bool
     }
 }
 
-// The largest mask over n facts.
-pub fn largest(n: u8) -> u64
-    ensures { λ r. ⌜ ((m : ℕ) → m < 2 ^ 64 → leb m r ≡ ltb m (2 ^ n)) ⌝ }
-{
-    if n < 64 {
-        (1u64 << n) - 1
-    } else {
-        18446744073709551615
-    }
-}
-
 // Whether the masks of a clause pass its kind's rule: at most two facts in both, or at most one positive fact.
 fn passes(two: bool, positive: u64, negative: u64) -> bool
-    ensures { λ r. ⌜ r ≡ ruleOf two positive negative ⌝ }
+    ensures { λ r. ⌜ r ≡ clauseRule two positive negative ⌝ }
 {
     if two {
         u64::count_ones(positive) + u64::count_ones(negative) <= 2
@@ -71,9 +62,9 @@ fn passes(two: bool, positive: u64, negative: u64) -> bool
 // ---- bodies: each is a part of the file, which starts at the place `start`
 
 // Numbers below a bound, which ascend.
-fn numbers(part: &[u8], bound: u16, start: u32) -> Verdict
+fn numbers(part: &[u8], bound: u16, start: u32) -> Fault
     requires { ⌜ start + length (now part) ≤ 65536 ⌝ }
-    ensures { λ r. ⌜ r ≡ verdictFrom start (ascending (reference (now (part .entry)) bound) 2 0 0 (length (now (part .entry)) / 2)) ⌝ }
+    ensures { λ r. ⌜ r ≡ faultFrom start (ascending (reference (now (part .entry)) bound) 2 0 0 (length (now (part .entry)) / 2)) ⌝ }
 {
     let count = part.len() / 2;
     let mut i: usize = 0;
@@ -83,23 +74,23 @@ fn numbers(part: &[u8], bound: u16, start: u32) -> Verdict
         let place = start + at as u32;
         let x = u16_at(part, at);
         if bound <= x {
-            return Verdict::Refused { number: 6, place };
+            return Fault::At { number: 6, place };
         }
         if (x as u32) < low {
-            return Verdict::Refused { number: 7, place };
+            return Fault::At { number: 7, place };
         }
         low = x as u32 + 1;
         i += 1;
     }
-    Verdict::Fine
+    Fault::None
 }
 
 // States over n facts, which ascend.
-fn states(part: &[u8], n: u8, start: u32) -> Verdict
+fn states(part: &[u8], n: u8, start: u32) -> Fault
     requires { ⌜ start + length (now part) ≤ 65536 ⌝ }
-    ensures { λ r. ⌜ r ≡ verdictFrom start (ascending (mask (now (part .entry)) n) 8 0 0 (length (now (part .entry)) / 8)) ⌝ }
+    ensures { λ r. ⌜ r ≡ faultFrom start (ascending (mask (now (part .entry)) n) 8 0 0 (length (now (part .entry)) / 8)) ⌝ }
 {
-    let top = largest(n);
+    let top = all_facts(n);
     let count = part.len() / 8;
     let mut i: usize = 0;
     let mut last: u64 = 0;
@@ -108,23 +99,23 @@ fn states(part: &[u8], n: u8, start: u32) -> Verdict
         let place = start + at as u32;
         let x = u64_at(part, at);
         if top < x {
-            return Verdict::Refused { number: 5, place };
+            return Fault::At { number: 5, place };
         }
         if (0 < i) & (x <= last) {
-            return Verdict::Refused { number: 7, place };
+            return Fault::At { number: 7, place };
         }
         last = x;
         i += 1;
     }
-    Verdict::Fine
+    Fault::None
 }
 
 // Clauses over n facts, under a rule.
-fn clauses(part: &[u8], n: u8, two: bool, start: u32) -> Verdict
+fn clauses(part: &[u8], n: u8, two: bool, start: u32) -> Fault
     requires { ⌜ start + length (now part) ≤ 65536 ⌝ }
-    ensures { λ r. ⌜ r ≡ verdictFrom start (items (clause (now (part .entry)) n (ruleOf two)) 16 0 (length (now (part .entry)) / 16)) ⌝ }
+    ensures { λ r. ⌜ r ≡ faultFrom start (items (clause (now (part .entry)) n (clauseRule two)) 16 0 (length (now (part .entry)) / 16)) ⌝ }
 {
-    let top = largest(n);
+    let top = all_facts(n);
     let count = part.len() / 16;
     let mut i: usize = 0;
     while i < count {
@@ -132,32 +123,32 @@ fn clauses(part: &[u8], n: u8, two: bool, start: u32) -> Verdict
         let place = start + at as u32;
         let positive = u64_at(part, at);
         if top < positive {
-            return Verdict::Refused { number: 5, place };
+            return Fault::At { number: 5, place };
         }
         let negative = u64_at(part, at + 8);
         if top < negative {
-            return Verdict::Refused {
+            return Fault::At {
                 number: 5,
                 place: place + 8,
             };
         }
         if !passes(two, positive, negative) {
-            return Verdict::Refused { number: 7, place };
+            return Fault::At { number: 7, place };
         }
         i += 1;
     }
-    Verdict::Fine
+    Fault::None
 }
 
 // A number below a bound.
-fn reference(part: &[u8], at: usize, bound: u16, start: u32) -> Verdict
+fn reference(part: &[u8], at: usize, bound: u16, start: u32) -> Fault
     requires { ⌜ (start + length (now part) ≤ 65536) × (at + 2 ≤ length (now part)) ⌝ }
-    ensures { λ r. ⌜ r ≡ verdictFrom start (reference (now (part .entry)) bound at) ⌝ }
+    ensures { λ r. ⌜ r ≡ faultFrom start (reference (now (part .entry)) bound at) ⌝ }
 {
     if u16_at(part, at) < bound {
-        Verdict::Fine
+        Fault::None
     } else {
-        Verdict::Refused {
+        Fault::At {
             number: 6,
             place: start + at as u32,
         }
@@ -165,14 +156,14 @@ fn reference(part: &[u8], at: usize, bound: u16, start: u32) -> Verdict
 }
 
 // Two of them.
-fn two_references(part: &[u8], bound: u16, other: u16, start: u32) -> Verdict
+fn two_references(part: &[u8], bound: u16, other: u16, start: u32) -> Fault
     requires { ⌜ (start + length (now part) ≤ 65536) × (4 ≤ length (now part)) ⌝ }
-    ensures { λ r. ⌜ r ≡ verdictFrom start (formBody (now (part .entry)) 0 (Form.Two bound other) 0 4) ⌝ }
+    ensures { λ r. ⌜ r ≡ faultFrom start (formBody (now (part .entry)) 0 (Form.Two bound other) 0 4) ⌝ }
 {
     let v = reference(part, 0, bound, start);
     match v {
-        Verdict::Fine => reference(part, 2, other, start),
-        Verdict::Refused { number, place } => Verdict::Refused { number, place },
+        Fault::None => reference(part, 2, other, start),
+        Fault::At { number, place } => Fault::At { number, place },
     }
 }
 
@@ -222,7 +213,7 @@ fn form_at(s: Section, i: u16, kind: u8) -> Form
 }
 
 // Whether a kind has a form.
-fn known(form: Form) -> bool
+fn has_form(form: Form) -> bool
     ensures { λ r. ⌜ r ≡ formKnown form ⌝ }
 {
     match form {
@@ -260,13 +251,13 @@ fn fits(form: Form, len: usize) -> bool
 }
 
 // What a body of a form says.
-fn body(form: Form, n: u8, part: &[u8], start: u32) -> Verdict
+fn body(form: Form, n: u8, part: &[u8], start: u32) -> Fault
     requires { ⌜ (start + length (now part) ≤ 65536) × (formFits form (length (now part)) ≡ true) ⌝ }
-    ensures { λ r. ⌜ r ≡ verdictFrom start (formBody (now (part .entry)) n form 0 (length (now (part .entry)))) ⌝ }
+    ensures { λ r. ⌜ r ≡ faultFrom start (formBody (now (part .entry)) n form 0 (length (now (part .entry)))) ⌝ }
 {
     match form {
-        Form::Unknown => Verdict::Fine,
-        Form::Bare => Verdict::Fine,
+        Form::Unknown => Fault::None,
+        Form::Bare => Fault::None,
         Form::Numbers(bound) => numbers(part, bound, start),
         Form::States => states(part, n, start),
         Form::Clauses(two) => clauses(part, n, two, start),
@@ -278,31 +269,31 @@ fn body(form: Form, n: u8, part: &[u8], start: u32) -> Verdict
 // ---- entries
 
 // Entry i of a section, at a place.
-pub fn entry(file: &[u8], s: Section, i: u16, place: u32) -> Verdict
+pub fn entry(file: &[u8], s: Section, i: u16, place: u32) -> Fault
     requires { ⌜ length (now file) ≤ 65536 ⌝ }
-    ensures { λ r. ⌜ r ≡ verdict (entry (now (file .entry)) (setsOf (now (file .entry)) s .kinds i) place) ⌝ }
+    ensures { λ r. ⌜ r ≡ fault (entry (now (file .entry)) (setsOf (now (file .entry)) s .kinds i) place) ⌝ }
 {
     let at = place as usize;
     if !inside(file, 2, at) {
-        return Verdict::Refused { number: 3, place };
+        return Fault::At { number: 3, place };
     }
     let head = entry_head(file, place);
     let len = head.len as usize;
     if !inside(file, 2 + len, at) {
-        return Verdict::Refused { number: 3, place };
+        return Fault::At { number: 3, place };
     }
     if len < 1 {
-        return Verdict::Refused { number: 4, place };
+        return Fault::At { number: 4, place };
     }
     let form = form_at(s, i, head.kind);
-    if !known(form) {
-        return Verdict::Refused {
+    if !has_form(form) {
+        return Fault::At {
             number: 4,
             place: place + 2,
         };
     }
     if !fits(form, len - 1) {
-        return Verdict::Refused { number: 4, place };
+        return Fault::At { number: 4, place };
     }
     let start = at + 3;
     let end = at + 2 + len;

@@ -8,12 +8,13 @@ use mathlib.Core.List.{List}
 use lib.ListN.{length}
 use lib.Dec.{leb, eqb, leb→le}
 use borrow.Author.Tests.{eq-eqb, ne-eqb, not-true, not-false}
+use Rattle.task.specs.Inner.{endsOf}
 use Rattle.task.specs.Task.{Task}
 use Rattle.task.proofs.Tests.{and-left, and-right, holds}
 use Rattle.certificate.specs.declared.Outline.the-variants.{Lawful, Refused}
-use Rattle.bodies.specs.declared.Verdict.{Verdict}
+use Rattle.bodies.specs.declared.Fault.{Fault}
 use Rattle.layout.specs.declared.Rest.{Rest}
-use Rattle.bodies.specs.declared.Verdict.the-variants.{Fine, Refused as Said}
+use Rattle.bodies.specs.declared.Fault.the-variants.{None, At}
 use Rattle.layout.specs.declared.Rest.the-variants.{After as Both, Refused as Ended}
 use Rattle.meaning.specs.Result.{Result, refuse, found}
 use Rattle.meaning.specs.Bytes.{number}
@@ -21,18 +22,19 @@ use Rattle.meaning.specs.File.{File}
 use Rattle.certificate.specs.Views.{outlineTo, outlineOf}
 use Rattle.bytes.specs.Numbers.{numberAt}
 use Rattle.meaning.specs.Layout.{count, readTask, readFile}
-use Rattle.bodies.specs.Verdicts.{verdict}
+use Rattle.bodies.specs.Faults.{fault}
 use Rattle.layout.specs.Sections.{rest, sectionAt, stepsAt, restAt}
 use Rattle.meaning.proofs.Results.{bind-case, found-same}
 use Rattle.bytes.proofs.ByteLaws.{number-in}
-use Rattle.bodies.proofs.Verdicts.{found-of, refused-of, goes-on, stops, passed, failed}
+use Rattle.bodies.proofs.Faults.{found-of, refused-of, goes-on, stops, passed, failed}
 use Rattle.layout.proofs.SectionChecks.{count-is}
 use Rattle.layout.proofs.OutlineLaws.{TaskIs, task-is, Agree, refusals, values, start, later, tail, placed, Placed, tail-agrees}
 
 -- ---- a reading that agrees with the code's
 
 module _ (bytes : List ℕ) (t : Task) where
-  both-refused : (r : Result File) (s : Result (ℕ × ℕ)) {n p : ℕ} → Agree (Placed bytes t) r s → Ended n p ≡ rest s → Refused n p ≡ outlineTo bytes r
+  both-refused : (r : Result File) (s : Result (ℕ × ℕ)) {n p : ℕ} → Agree (Placed bytes t) r s → Ended n p ≡ rest s
+      → Refused n p ≡ outlineTo bytes r
   unfolding outlineTo
   both-refused (refuse m q) (refuse _ _) refusals e = cc
   both-refused (found f) (found x) (values h) e = let z : _≡_ {A = ℕ} 0 1 = cc in absurd (omega arith)
@@ -54,11 +56,14 @@ rest-found (found x) {a = a} {b} g e =
     ap₂ (λ (y z : ℕ). found (y, z)) i j
 
 -- the counts of the state sets and of the steps lie in the file
-pub rest-ends : (bytes : List ℕ) (n m : ℕ) {x : Rest} {a b : ℕ} → x ≡ Both a b → x ≡ rest (restAt bytes n m) → (a + 2 ≤ length bytes) × (b + 2 ≤ length bytes)
+pub rest-ends : (bytes : List ℕ) (n m : ℕ) {x : Rest} {a b : ℕ} → x ≡ Both a b → x ≡ rest (restAt bytes n m)
+    → (a + 2 ≤ length bytes) × (b + 2 ≤ length bytes)
 unfolding restAt sectionAt stepsAt
 rest-ends bytes n m {a = a} {b} x e =
-    bind-case (sectionAt bytes (record { states = false; facts = n; others = m }) 256 (24 + 24 * m)) _ (a, b) (rest-found (restAt bytes n m) x e) λ es _ e₁.
-    bind-case (sectionAt bytes (record { states = true; facts = n; others = numberAt 2 bytes (24 + 24 * m) }) 512 (es .1)) _ (a, b) e₁ λ ss ss! e₂.
+    bind-case (sectionAt bytes (record { states = false; facts = n; others = m }) 256 (24 + 24 * m)) _ (a, b)
+    (rest-found (restAt bytes n m) x e) λ es _ e₁.
+    bind-case (sectionAt bytes (record { states = true; facts = n; others = numberAt 2 bytes (24 + 24 * m) }) 512 (es .1)) _ (a, b) e₁
+    λ ss ss! e₂.
     bind-case (stepsAt bytes (ss .1)) _ (a, b) e₂ λ ks ks! q.
     bind-case (count bytes 0 512 (es .1)) _ ss ss! λ sc sc! _.
     bind-case (count bytes 1 2048 (ss .1)) _ ks ks! λ kc kc! _.
@@ -92,18 +97,21 @@ module _ (bytes : List ℕ) where
       unfolding outlineOf outlineTo readFile
       length-other g =
           sym (ap (outlineTo bytes)
-          (passed 1 0 _ length-good ∙ failed 1 0 _ (ap (λ (x : ℕ). eqb (x + 4) (length bytes)) length-read ∙ ne-eqb (w + 4) (length bytes) g)))
+          (passed 1 0 _ length-good ∙ failed 1 0 _ (ap (λ (x : ℕ). eqb (x + 4) (length bytes)) length-read ∙ ne-eqb (w + 4) (length bytes)
+          g)))
 
       module _ (g : w + 4 ≡ length bytes) where
         length-same : eqb (number 4 bytes 0 + 4) (length bytes) ≡ true
         length-same = ap (λ (x : ℕ). eqb (x + 4) (length bytes)) length-read ∙ eq-eqb (w + 4) (length bytes) g
 
-        pub task-bad : {v : Verdict} {r p : ℕ} → v ≡ Said r p → v ≡ verdict (readTask bytes) → Refused r p ≡ outlineOf bytes
+        pub task-bad : {v : Fault} {r p : ℕ} → v ≡ At r p → v ≡ fault (readTask bytes) → Refused r p ≡ outlineOf bytes
         unfolding outlineOf outlineTo readFile
         task-bad {r = r} {p} y e =
-            sym (ap (outlineTo bytes) (passed 1 0 _ length-good ∙ passed 1 0 _ length-same ∙ stops _ (refused-of (readTask bytes) r p (sym y ∙ e))))
+            sym (ap (outlineTo bytes) (passed 1 0 _ length-good ∙ passed 1 0 _ length-same
+            ∙ stops _ (refused-of (readTask bytes) r p (sym y ∙ e))))
 
-        module _ {v : Verdict} (fine : v ≡ Fine) (h : v ≡ verdict (readTask bytes)) {n m : ℕ} (en : n ≡ numberAt 1 bytes 5) (em : m ≡ numberAt 2 bytes 22) where
+        module _ {v : Fault} (fine : v ≡ None) (h : v ≡ fault (readTask bytes)) {n m : ℕ} (en : n ≡ numberAt 1 bytes 5)
+            (em : m ≡ numberAt 2 bytes 22) where
           the-task : (t : Task) × (readTask bytes ≡ found (t, start bytes t)) × TaskIs bytes t
           the-task =
               let f = found-of (readTask bytes) (sym fine ∙ h) in
@@ -129,13 +137,12 @@ module _ (bytes : List ℕ) where
           pub rest-bad : {x : Rest} {r p : ℕ} → x ≡ Ended r p → x ≡ rest (restAt bytes n m) → Refused r p ≡ outlineOf bytes
           rest-bad y e = both-refused bytes t (tail bytes t) _ (tail-agrees bytes t) (sym y ∙ e ∙ rest-same) ∙ outline-tail
 
-          module _ {i o a b ac sc kc : ℕ} (ei : i ≡ numberAt 8 bytes 6) (eo : o ≡ numberAt 8 bytes 14) (ea : ac ≡ numberAt 2 bytes (24 + 24 * m))
+          module _ {i o a b ac sc kc : ℕ} (ei : i ≡ numberAt 8 bytes 6) (eo : o ≡ numberAt 8 bytes 14)
+              (ea : ac ≡ numberAt 2 bytes (24 + 24 * m))
               (es : sc ≡ numberAt 2 bytes a) (ek : kc ≡ numberAt 2 bytes b) where
             pub lawful : {x : Rest} → x ≡ Both a b → x ≡ rest (restAt bytes n m)
                 → Lawful (record {
-                  facts = n;
-                  init = i;
-                  goal = o;
+                  ends = record { facts = n; init = i; goal = o };
                   actions = m;
                   «action_sets» = ac;
                   «state_sets» = sc;
@@ -144,14 +151,14 @@ module _ (bytes : List ℕ) where
                   «state_sets_at» = a + 2;
                   «steps_at» = b + 2;
                 }) ≡ outlineOf bytes
+            unfolding endsOf
             lawful y e =
                 let pi : i ≡ t .init = ei ∙ sym (the-task .2 .init) in
                 let po : o ≡ t .goal = eo ∙ sym (the-task .2 .goal) in
-                let pa : ac ≡ numberAt 2 bytes (24 + 24 * length (t .actions)) = ea ∙ ap (λ (x : ℕ). numberAt 2 bytes (24 + 24 * x)) actions-same in
+                let pa : ac ≡ numberAt 2 bytes (24 + 24 * length (t .actions)) = ea
+                ∙ ap (λ (x : ℕ). numberAt 2 bytes (24 + 24 * x)) actions-same in
                 ap Lawful (λ j. record {
-                  facts = facts-same j;
-                  init = pi j;
-                  goal = po j;
+                  ends = record { facts = facts-same j; init = pi j; goal = po j };
                   actions = actions-same j;
                   «action_sets» = pa j;
                   «state_sets» = es j;

@@ -1,3 +1,4 @@
+pub mod RowLaws
 pub mod LayoutLaws
 pub mod OutlineLaws
 pub mod RestLaws

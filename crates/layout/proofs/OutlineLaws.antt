@@ -7,6 +7,7 @@ use mathlib.Core.Bool.{true}
 use mathlib.Core.List.{List}
 use lib.ListN.{length}
 use lib.Dec.{leb, ltb}
+use Rattle.task.specs.Inner.{endsOf}
 use Rattle.task.specs.Task.{Task}
 use Rattle.certificate.specs.declared.Places.{Places}
 use Rattle.meaning.specs.Result.{Result, refuse, found, _>>=_, need}
@@ -16,7 +17,7 @@ use Rattle.certificate.specs.Views.{afterEntry, entryPlace, placesOf}
 use Rattle.bytes.specs.Numbers.{numberAt}
 use Rattle.meaning.specs.Layout.{items, field, count, mask, action, step, Kind, actionKinds, stateKinds, entry, entries, readTask}
 use Rattle.meaning.specs.Writing.{FitsAction}
-use Rattle.bodies.specs.Verdicts.{verdict}
+use Rattle.bodies.specs.Faults.{fault}
 use Rattle.layout.specs.Sections.{sectionAt, stepsAt, restAt}
 use Rattle.meaning.proofs.Reading.{task-walked}
 use Rattle.meaning.proofs.Results.{bind-case, need-case, found-same}
@@ -31,14 +32,15 @@ unfolding entryPlace
 place-next bytes p zero = refl
 place-next bytes p (suc k) = ap (afterEntry bytes) (place-next bytes p k)
 
-entries-place : (bytes : List ℕ) {A : Type 0} (kinds : ℕ → List (Kind A)) (k i p : ℕ) (r : List A × ℕ) → entries bytes kinds i p k ≡ found r
+entries-place : (bytes : List ℕ) {A : Type 0} (kinds : ℕ → List (Kind A)) (k i p : ℕ) (r : List A × ℕ)
+    → entries bytes kinds i p k ≡ found r
     → r .1 ≡ entryPlace bytes p k
 unfolding entries entryPlace afterEntry
 entries-place bytes kinds zero i p r e = ap (λ (s : List _ × ℕ). s .1) (sym (found-same e))
 entries-place bytes kinds (suc k) i p r e =
     bind-case (entry bytes (kinds i) p) _ r e λ x x! e₁.
     bind-case (entries bytes kinds (suc i) (p + 2 + number 2 bytes p) k) _ r e₁ λ s s! q.
-    let h = entry-fine bytes (kinds i) p refl (ap verdict (sym x!)) in
+    let h = entry-fine bytes (kinds i) p refl (ap fault (sym x!)) in
     let w : number 2 bytes p ≡ numberAt 2 bytes p = sym (number-in 2 bytes p (omega arith)) in
     ap (λ (t : List _ × ℕ). t .1) (sym (found-same q))
     ∙ entries-place bytes kinds k (suc i) (p + 2 + number 2 bytes p) s s!
@@ -63,7 +65,8 @@ mask-is bytes n p x e =
 pub task-is : (bytes : List ℕ) (r : Task × ℕ) → readTask bytes ≡ found r → TaskIs bytes (r .0) × (r .1 ≡ 24 + 24 * length (r .0 .actions))
 task-is bytes r e =
     let w = task-walked bytes r e in
-    let h : length (w .acts) ≡ w .m = items-give (FitsAction (w .n)) (action bytes (w .n)) 24 (action-gives bytes (w .n)) (w .m) 0 24 (w .acts) (w .acts!) .0 in
+    let h : length (w .acts) ≡ w .m = items-give (FitsAction (w .n)) (action bytes (w .n)) 24 (action-gives bytes (w .n)) (w .m) 0 24
+    (w .acts) (w .acts!) .0 in
     subst (λ (x : Task × ℕ). TaskIs bytes (x .0) × (x .1 ≡ 24 + 24 * length (x .0 .actions))) (w .whole) (
       record {
         facts = field-is bytes 1 5 (w .n) (w .n!) .0;
@@ -123,9 +126,7 @@ module _ (bytes : List ℕ) (t : Task) where
   -- where its parts are, by the places after the action sets and the state sets
   abbrev pub placed : ℕ → ℕ → Places
   placed a s = record {
-    facts = t .facts;
-    init = t .init;
-    goal = t .goal;
+    ends = endsOf t;
     actions = length (t .actions);
     «action_sets» = numberAt 2 bytes start;
     «state_sets» = numberAt 2 bytes a;
@@ -136,7 +137,8 @@ module _ (bytes : List ℕ) (t : Task) where
   }
 
   module _ (ac sc kc : ℕ) (es : List ActionSet × ℕ) (ss : List StateSet × ℕ) (ks : List Step) (ac! : count bytes 0 256 start ≡ found ac)
-      (es! : entries bytes (actionKinds bytes (length (t .actions))) 0 (start + 2) ac ≡ found es) (sc! : count bytes 0 512 (es .1) ≡ found sc)
+      (es! : entries bytes (actionKinds bytes (length (t .actions))) 0 (start + 2) ac ≡ found es)
+      (sc! : count bytes 0 512 (es .1) ≡ found sc)
       (ss! : entries bytes (stateKinds bytes (t .facts) ac) 0 (es .1 + 2) sc ≡ found ss) (kc! : count bytes 1 2048 (ss .1) ≡ found kc)
       (ks! : items (step bytes) 12 (ss .1 + 2) kc ≡ found ks) where
     places-are : placesOf bytes (record { task = t; actionSets = es .0; stateSets = ss .0; steps = ks }) ≡ placed (es .1) (ss .1)
@@ -156,9 +158,7 @@ module _ (bytes : List ℕ) (t : Task) where
         let ns : length (ss .0) ≡ numberAt 2 bytes (es .1) = ls ∙ count-is bytes 0 512 (es .1) sc sc! .0 in
         let nk : length ks ≡ numberAt 2 bytes (ss .1) = lk ∙ count-is bytes 1 2048 (ss .1) kc kc! .0 in
         λ i. record {
-          facts = t .facts;
-          init = t .init;
-          goal = t .goal;
+          ends = endsOf t;
           actions = length (t .actions);
           «action_sets» = na i;
           «state_sets» = ns i;
@@ -178,7 +178,8 @@ module _ (bytes : List ℕ) (t : Task) where
       agree-group tail (count bytes 0 256 start) _ _
       (agree-bind (count bytes 0 256 start) _ _ λ ac ac!.
       agree-bind (entries bytes (actionKinds bytes (length (t .actions))) 0 (start + 2) ac) _ _ λ es es!.
-      subst (λ (o : ℕ). Agree {A = File} {B = ℕ × ℕ} Placed (later ac es) (sectionAt bytes (record { states = true; facts = t .facts; others = o }) 512 (es .1)
+      subst (λ (o : ℕ). Agree {A = File} {B = ℕ × ℕ} Placed (later ac es)
+      (sectionAt bytes (record { states = true; facts = t .facts; others = o }) 512 (es .1)
       >>= λ ss. stepsAt bytes (ss .1) >>= λ _. found (es .1, ss .1)))
       (count-is bytes 0 256 start ac ac! .0)
       (agree-group _ (count bytes 0 512 (es .1)) _ _

@@ -5,23 +5,24 @@ use Prim.Native.Nat.{ℕ, _+_, _*_}
 use native.Mathlib.Omega.{arith}
 use mathlib.Core.Bool.{true, false}
 use mathlib.Core.List.{List}
-use Rattle.bodies.specs.declared.Verdict.{Verdict}
-use Rattle.layout.specs.declared.Walk.{Walk}
-use Rattle.bodies.specs.declared.Verdict.the-variants.{Fine, Refused}
-use Rattle.layout.specs.declared.Walk.the-variants.{After, Refused as Stopped}
+use Rattle.bodies.specs.declared.Fault.{Fault}
+use Rattle.layout.specs.declared.rows.Walked.{Walked}
+use Rattle.bodies.specs.declared.Fault.the-variants.{None, At}
+use Rattle.layout.specs.declared.rows.Walked.the-variants.{After, Refused as Stopped}
 use Rattle.layout.specs.declared.Rest.the-variants.{After as Both, Refused as Ended}
 use Rattle.bodies.specs.declared.Section.{Section}
 use Rattle.meaning.specs.Result.{Result, refuse, found}
 use Rattle.bytes.specs.Numbers.{numberAt}
-use Rattle.bodies.specs.Verdicts.{verdict}
-use Rattle.layout.specs.Sections.{walk, rest, sectionAt, stepsAt, restAt}
-use Rattle.bodies.proofs.Verdicts.{found-of, refused-of, goes-on, stops}
+use Rattle.bodies.specs.Faults.{fault}
+use Rattle.layout.specs.Rows.{walked}
+use Rattle.layout.specs.Sections.{rest, sectionAt, stepsAt, restAt}
+use Rattle.bodies.proofs.Faults.{found-of, refused-of, goes-on, stops}
 
-walked-to : {A : Type 0} (r : Result (A × ℕ)) {v : Walk} {p : ℕ} → v ≡ After p → v ≡ walk r → (x : A) × (r ≡ found (x, p))
+walked-to : {A : Type 0} (r : Result (A × ℕ)) {v : Walked} {p : ℕ} → v ≡ After p → v ≡ walked r → (x : A) × (r ≡ found (x, p))
 walked-to (refuse n q) g e = let z : _≡_ {A = ℕ} 0 1 = cc in absurd (omega arith)
 walked-to (found x) {p = p} g e = let i : x .1 ≡ p = cc in (x .0, ap (λ (q : ℕ). found (x .0, q)) i)
 
-walked-not : {A : Type 0} (r : Result (A × ℕ)) {v : Walk} {n p : ℕ} → v ≡ Stopped n p → v ≡ walk r → r ≡ refuse n p
+walked-not : {A : Type 0} (r : Result (A × ℕ)) {v : Walked} {n p : ℕ} → v ≡ Stopped n p → v ≡ walked r → r ≡ refuse n p
 walked-not (refuse m q) g e = cc
 walked-not (found x) g e = let z : _≡_ {A = ℕ} 0 1 = cc in absurd (omega arith)
 
@@ -30,7 +31,8 @@ module _ (bytes : List ℕ) (n m : ℕ) where
   abbrev First : Section
   First = record { states = false; facts = n; others = m }
 
-  pub first-bad : {v : Walk} {r q : ℕ} → v ≡ Stopped r q → v ≡ walk (sectionAt bytes First 256 (24 + 24 * m)) → Ended r q ≡ rest (restAt bytes n m)
+  pub first-bad : {v : Walked} {r q : ℕ} → v ≡ Stopped r q → v ≡ walked (sectionAt bytes First 256 (24 + 24 * m))
+      → Ended r q ≡ rest (restAt bytes n m)
   unfolding restAt
   first-bad g e = sym (ap rest (stops _ (walked-not (sectionAt bytes First 256 (24 + 24 * m)) g e)))
 
@@ -38,19 +40,21 @@ module _ (bytes : List ℕ) (n m : ℕ) where
   abbrev Second : ℕ → Section
   Second o = record { states = true; facts = n; others = o }
 
-  module _ {v : Walk} {a o : ℕ} (g : v ≡ After a) (e : v ≡ walk (sectionAt bytes First 256 (24 + 24 * m))) (w : o ≡ numberAt 2 bytes (24 + 24 * m)) where
+  module _ {v : Walked} {a o : ℕ} (g : v ≡ After a) (e : v ≡ walked (sectionAt bytes First 256 (24 + 24 * m)))
+      (w : o ≡ numberAt 2 bytes (24 + 24 * m)) where
     same-second : sectionAt bytes (Second (numberAt 2 bytes (24 + 24 * m))) 512 a ≡ sectionAt bytes (Second o) 512 a
     same-second = ap (λ (k : ℕ). sectionAt bytes (Second k) 512 a) (sym w)
 
-    pub second-bad : {u : Walk} {r q : ℕ} → u ≡ Stopped r q → u ≡ walk (sectionAt bytes (Second o) 512 a) → Ended r q ≡ rest (restAt bytes n m)
+    pub second-bad : {u : Walked} {r q : ℕ} → u ≡ Stopped r q → u ≡ walked (sectionAt bytes (Second o) 512 a)
+        → Ended r q ≡ rest (restAt bytes n m)
     unfolding restAt
     second-bad y f =
         sym (ap rest
         (goes-on _ (walked-to (sectionAt bytes First 256 (24 + 24 * m)) g e .1)
         ∙ stops _ (same-second ∙ walked-not (sectionAt bytes (Second o) 512 a) y f)))
 
-    module _ {u : Walk} {s : ℕ} (y : u ≡ After s) (f : u ≡ walk (sectionAt bytes (Second o) 512 a)) where
-      pub third-bad : {x : Verdict} {r q : ℕ} → x ≡ Refused r q → x ≡ verdict (stepsAt bytes s) → Ended r q ≡ rest (restAt bytes n m)
+    module _ {u : Walked} {s : ℕ} (y : u ≡ After s) (f : u ≡ walked (sectionAt bytes (Second o) 512 a)) where
+      pub third-bad : {x : Fault} {r q : ℕ} → x ≡ At r q → x ≡ fault (stepsAt bytes s) → Ended r q ≡ rest (restAt bytes n m)
       unfolding restAt
       third-bad {r = r} {q} z h =
           sym (ap rest
@@ -58,7 +62,7 @@ module _ (bytes : List ℕ) (n m : ℕ) where
           ∙ goes-on _ (same-second ∙ walked-to (sectionAt bytes (Second o) 512 a) y f .1)
           ∙ stops _ (refused-of (stepsAt bytes s) r q (sym z ∙ h))))
 
-      pub all-good : {x : Verdict} → x ≡ Fine → x ≡ verdict (stepsAt bytes s) → Both a s ≡ rest (restAt bytes n m)
+      pub all-good : {x : Fault} → x ≡ None → x ≡ fault (stepsAt bytes s) → Both a s ≡ rest (restAt bytes n m)
       unfolding restAt
       all-good z h =
           sym (ap rest

@@ -1,30 +1,32 @@
 -- Sections of a file as the code reads them, and what follows the actions.
 -- Assumes nothing.
 use Prim.Native.Nat.{ℕ, _+_, _*_}
-use mathlib.Core.Bool.{true, false}
+use mathlib.Core.Bool.{true, false, _&&_}
 use mathlib.Core.List.{List}
 use lib.ListN.{length}
-use lib.Dec.{leb}
-use Rattle.layout.specs.declared.Walk.{Walk}
-use Rattle.layout.specs.declared.Walk.the-variants.{After, Refused as Stopped}
+use lib.Dec.{leb, eqb}
 use Rattle.layout.specs.declared.Rest.{Rest}
 use Rattle.layout.specs.declared.Rest.the-variants.{After as Both, Refused as Ended}
 use Rattle.bodies.specs.declared.Section.{Section}
 use Rattle.meaning.specs.Result.{Result, refuse, found, _>>=_, need}
 use Rattle.bytes.specs.Numbers.{numberAt}
 use Rattle.meaning.specs.File.{Step}
-use Rattle.meaning.specs.Layout.{items, count, step, entries}
-use Rattle.bodies.specs.Verdicts.{setsOf}
+use Rattle.meaning.specs.Layout.{items, field, count, step, entries}
+use Rattle.bodies.specs.Faults.{setsOf}
 
--- a reading of entries one after the other, as the place after them
-abbrev pub walk : {A : Type 0} → Result (A × ℕ) → Walk
-walk (refuse r p) = Stopped r p
-walk (found x) = After (x .1)
-
--- the same of what follows the actions, with two places
+-- a reading of what follows the actions, as two places
 abbrev pub rest : Result (ℕ × ℕ) → Rest
 rest (refuse r p) = Ended r p
 rest (found x) = Both (x .0) (x .1)
+
+-- how the task starts: the version, and the number of facts
+unfoldable pub factsAt : List ℕ → Result ℕ
+factsAt bytes = do
+  v ← field bytes 1 4
+  _ ← need (eqb v 1) 2 4
+  n ← field bytes 1 5
+  _ ← need (leb 1 n && leb n 64) 4 5
+  found n
 
 -- a section: its count, its entries, and the place after them
 unfoldable pub sectionAt : (bytes : List ℕ) (s : Section) → ℕ → ℕ → Result (List (setsOf bytes s .Item) × ℕ)

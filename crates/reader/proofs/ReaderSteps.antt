@@ -1,4 +1,5 @@
--- Steps of a walk that has a reader in a local. Each goes from the lifetime's token and what the slice owns, which stand first in the context, back to them.
+-- Steps of a walk that has a reader in a local. Each goes from the lifetime's token and what the slice owns, which stand first in the
+-- context, back to them.
 --     makes        a reader is made at a place
 --     reads        a number is read at it
 --     walks-on     it walks on
@@ -17,7 +18,8 @@ use prog.Wp.{Heap, Env, Calls, Loops}
 use ghost.Atoms.{Atoms, sem}
 use contract.Monad.{fact}
 use sound.WpLaws.{FmC}
-use types.Kit.{Given, Item, ‵, raw, _⊛_, ⋆, Post, lands, runs, Seq, Step, step, _$_, _∵_, !, qed, move, use1, split, join, fjoin, done}
+use types.Kit.{Given, Item, ‵, raw, _⊛_, ⋆, Post, lands, settles, runs, Seq, Step, step, _$_, _∵_, !, qed, move, use1, split, join, fjoin}
+use types.Kit.{done}
 use types.Run.{Opds}
 use denote.RattleType.{owns}
 use denote.Laws.{Is, Tells}
@@ -37,7 +39,7 @@ use Rattle.reader.proofs.Reader as T
 use Rattle.reader.proofs.Reader.Laws as T′
 use Rattle.reader.proofs.reader_at as reader-at
 use Rattle.reader.proofs.past as past
-use Rattle.reader.proofs.ReaderWalks.{B, reader, mach, Own, token, others, asks, back, made, lends}
+use Rattle.reader.proofs.ReaderWalks.{B, reader, mach, Own, token, others, asks, asks-last, back, made, lends}
 use Rattle.reader.proofs.ReadNumber.{ended, clauses, OnReader}
 
 -- a reader's relation tells its machine value
@@ -73,47 +75,90 @@ module _ {M : Type 1} (𝓤 : URA M) (H : Heap 𝓤) (A : Atoms 𝓤) (W : Given
   typed p n fits = (tt, (shr-slice-lawful 𝓤 H A W (named 0) κ u8 .typed s (mach s ∷ []) p .0 .1, (record { fits = fits }, tt)))
 
   -- what the callees on a reader ask
-  lends-read : (w : Width) (k n : ℕ) → n < 2 ^ 64 → ent 𝓤 (⋆ 𝓤 H A (token κ q ∷ ‵ (Own κ s) ∷ [])) (⋆ 𝓤 H A (raw (OnReader 𝓤 H A w k .pre (to-read 𝓤 H A κ q s w k n)) ∷ ‵ (Own κ s) ∷ []))
+  lends-read : (w : Width) (k n : ℕ) → n < 2 ^ 64
+      → ent 𝓤 (⋆ 𝓤 H A (token κ q ∷ ‵ (Own κ s) ∷ [])) (⋆ 𝓤 H A (raw (OnReader 𝓤 H A w k .pre (to-read 𝓤 H A κ q s w k n)) ∷ ‵ (Own κ s) ∷
+      []))
   lends-read w k n fits =
-      qed W (token κ q ∷ ‵ (Own κ s) ∷ []) ∵ move ! (1 ∷ []) $ use1 W (‵ (B (κ, tt) .own (reader s n) (at s n ∷ [])) ⊛ ‵ (Own κ s)) (made 𝓤 H A W κ s n fits) $ split ! $
+      qed W (token κ q ∷ ‵ (Own κ s) ∷ []) ∵ move ! (1 ∷ []) $
+      use1 W (‵ (B (κ, tt) .own (reader s n) (at s n ∷ [])) ⊛ ‵ (Own κ s)) (made 𝓤 H A W κ s n fits) $ split ! $
       nothing ! $ move ! (1 ∷ 0 ∷ []) $ fjoin ! $ move ! (2 ∷ 0 ∷ []) $ join ! $ nothing ! $ move ! (1 ∷ 0 ∷ []) $ join ! $ done !
 
-  lends-walk : (n m : ℕ) → n < 2 ^ 64 → m < 2 ^ 64 → n + m < 2 ^ 64 → ent 𝓤 (⋆ 𝓤 H A (token κ q ∷ ‵ (Own κ s) ∷ [])) (⋆ 𝓤 H A (raw (Past 𝓤 H A .pre (to-walk 𝓤 H A κ q s n m)) ∷ ‵ (Own κ s) ∷ []))
+  lends-walk : (n m : ℕ) → n < 2 ^ 64 → m < 2 ^ 64 → n + m < 2 ^ 64
+      → ent 𝓤 (⋆ 𝓤 H A (token κ q ∷ ‵ (Own κ s) ∷ [])) (⋆ 𝓤 H A (raw (Past 𝓤 H A .pre (to-walk 𝓤 H A κ q s n m)) ∷ ‵ (Own κ s) ∷ []))
   lends-walk n m fits fits′ ok =
-      qed W (token κ q ∷ ‵ (Own κ s) ∷ []) ∵ move ! (1 ∷ []) $ use1 W (‵ (B (κ, tt) .own (reader s n) (at s n ∷ [])) ⊛ ‵ (Own κ s)) (made 𝓤 H A W κ s n fits) $ split ! $
-      nothing ! $ owned ! usize (Is usize) (uint-makes 𝓤 H A W w64) m _ (refl, fits′) $ fjoin ! $ move ! (1 ∷ 0 ∷ []) $ fjoin ! $ move ! (2 ∷ 0 ∷ []) $ join ! $
-      use1 W (raw (Past 𝓤 H A .pre (to-walk 𝓤 H A κ q s n m))) (qed W ((token κ q ⊛ ‵ (owns (B (κ, tt) ∷ usize ∷ []) (reader s n, (m, tt)) (at s n ∷ [], (vint w64 m ∷ [], tt)))) ∷ []) ∵ says ! ok $ done !) $ done !
+      qed W (token κ q ∷ ‵ (Own κ s) ∷ []) ∵ move ! (1 ∷ []) $
+      use1 W (‵ (B (κ, tt) .own (reader s n) (at s n ∷ [])) ⊛ ‵ (Own κ s)) (made 𝓤 H A W κ s n fits) $ split ! $
+      nothing ! $ owned ! usize (Is usize) (uint-makes 𝓤 H A W w64) m _ (refl, fits′) $ fjoin ! $ move ! (1 ∷ 0 ∷ []) $ fjoin ! $
+      move ! (2 ∷ 0 ∷ []) $ join ! $
+      use1 W (raw (Past 𝓤 H A .pre (to-walk 𝓤 H A κ q s n m))) (qed W
+      ((token κ q ⊛ ‵ (owns (B (κ, tt) ∷ usize ∷ []) (reader s n, (m, tt)) (at s n ∷ [], (vint w64 m ∷ [], tt)))) ∷ []) ∵ says ! ok $
+      done !) $ done !
 
   -- what the callees' contracts say of their results
-  said-make : (n : ℕ) (v : Val) → ent 𝓤 (ReaderAt 𝓤 H A .post (to-make 𝓤 H A κ q s n) v) (H .⇛ (⋆ 𝓤 H A (token κ q ∷ raw (fact 𝓤 ((v ≡ at s n) × Is (B (κ, tt)) (reader s n) (at s n ∷ []))) ∷ [])))
-  said-make n = back 𝓤 H A W (B (κ, tt)) T′.lowered (told κ) (reader s n) κ q (reader-at.spec 𝓤 H A (λ _. emp 𝓤) (λ _ _ _. emp 𝓤) (κ, tt) (s, (n, tt)) .ensures tt) (λ r. (r .src ≡ s) × (r .at ≡ n))
-      (λ r. exE 𝓤 _ (λ ws. snd∗ 𝓤 (sem 𝓤 H A (lasts reader-at.ended (κ, tt) (s, (n, tt)) ws)) (fact 𝓤 ((r .src ≡ s) × (r .at ≡ n))))) (λ r e i. record { src = e .0 i; at = e .1 i })
+  said-make : (n : ℕ) (v : Val) → ent 𝓤 (ReaderAt 𝓤 H A .post (to-make 𝓤 H A κ q s n) v)
+      (H .⇛ (⋆ 𝓤 H A (token κ q ∷ raw (fact 𝓤 ((v ≡ at s n) × Is (B (κ, tt)) (reader s n) (at s n ∷ []))) ∷ [])))
+  said-make n =
+      back 𝓤 H A W (B (κ, tt)) T′.lowered (told κ) (reader s n) κ q
+      (reader-at.spec 𝓤 H A (λ _. emp 𝓤) (λ _ _ _. emp 𝓤) (κ, tt) (s, (n, tt)) .ensures tt) (λ r. (r .src ≡ s) × (r .at ≡ n))
+      (λ r. exE 𝓤 _ (λ ws. snd∗ 𝓤 (sem 𝓤 H A (lasts reader-at.ended (κ, tt) (s, (n, tt)) ws)) (fact 𝓤 ((r .src ≡ s) × (r .at ≡ n)))))
+      (λ r e i. record { src = e .0 i; at = e .1 i })
 
-  said-read : (w : Width) (k n : ℕ) (v : Val) → ent 𝓤 (OnReader 𝓤 H A w k .post (to-read 𝓤 H A κ q s w k n) v) (H .⇛ (⋆ 𝓤 H A (token κ q ∷ raw (fact 𝓤 ((v ≡ vint w (numberAt k (now s) n)) × Is (UInt w) (numberAt k (now s) n) (vint w (numberAt k (now s) n) ∷ []))) ∷ [])))
-  said-read w k n = back 𝓤 H A W (UInt w) (vint w) (uint-tells w) (numberAt k (now s) n) κ q (closing 𝓤 H A (ended w) (clauses 𝓤 w k) (κ, tt) (reader s n, tt) .ensures tt) (λ x. x ≡ numberAt k (now s) n)
-      (λ x. exE 𝓤 _ (λ ws. snd∗ 𝓤 (sem 𝓤 H A (lasts (ended w) (κ, tt) (reader s n, tt) ws)) (fact 𝓤 (x ≡ numberAt k (now s) n)))) (λ x e. e)
+  said-read : (w : Width) (k n : ℕ) (v : Val)
+      → ent 𝓤 (OnReader 𝓤 H A w k .post (to-read 𝓤 H A κ q s w k n) v)
+      (H .⇛ (⋆ 𝓤 H A (token κ q ∷ raw (fact 𝓤 ((v ≡ vint w (numberAt k (now s) n)) × Is (UInt w) (numberAt k (now s) n)
+      (vint w (numberAt k (now s) n) ∷ []))) ∷ [])))
+  said-read w k n =
+      back 𝓤 H A W (UInt w) (vint w) (uint-tells w) (numberAt k (now s) n) κ q
+      (closing 𝓤 H A (ended w) (clauses 𝓤 w k) (κ, tt) (reader s n, tt) .ensures tt) (λ x. x ≡ numberAt k (now s) n)
+      (λ x. exE 𝓤 _ (λ ws. snd∗ 𝓤 (sem 𝓤 H A (lasts (ended w) (κ, tt) (reader s n, tt) ws)) (fact 𝓤 (x ≡ numberAt k (now s) n))))
+      (λ x e. e)
 
-  said-walk : (n m : ℕ) (v : Val) → ent 𝓤 (Past 𝓤 H A .post (to-walk 𝓤 H A κ q s n m) v) (H .⇛ (⋆ 𝓤 H A (token κ q ∷ raw (fact 𝓤 ((v ≡ at s (n + m)) × Is (B (κ, tt)) (reader s (n + m)) (at s (n + m) ∷ []))) ∷ [])))
-  said-walk n m = back 𝓤 H A W (B (κ, tt)) T′.lowered (told κ) (reader s (n + m)) κ q (past.spec 𝓤 H A (λ _. emp 𝓤) (λ _ _ _. emp 𝓤) (κ, tt) (reader s n, (m, tt)) .ensures tt) (λ r. (r .src ≡ s) × (r .at ≡ n + m))
-      (λ r. exE 𝓤 _ (λ ws. snd∗ 𝓤 (sem 𝓤 H A (lasts past.ended (κ, tt) (reader s n, (m, tt)) ws)) (fact 𝓤 ((r .src ≡ s) × (r .at ≡ n + m))))) (λ r e i. record { src = e .0 i; at = e .1 i })
+  said-walk : (n m : ℕ) (v : Val) → ent 𝓤 (Past 𝓤 H A .post (to-walk 𝓤 H A κ q s n m) v)
+      (H .⇛ (⋆ 𝓤 H A (token κ q ∷ raw (fact 𝓤 ((v ≡ at s (n + m)) × Is (B (κ, tt)) (reader s (n + m)) (at s (n + m) ∷ []))) ∷ [])))
+  said-walk n m =
+      back 𝓤 H A W (B (κ, tt)) T′.lowered (told κ) (reader s (n + m)) κ q
+      (past.spec 𝓤 H A (λ _. emp 𝓤) (λ _ _ _. emp 𝓤) (κ, tt) (reader s n, (m, tt)) .ensures tt) (λ r. (r .src ≡ s) × (r .at ≡ n + m))
+      (λ r. exE 𝓤 _ (λ ws. snd∗ 𝓤 (sem 𝓤 H A (lasts past.ended (κ, tt) (reader s n, (m, tt)) ws))
+      (fact 𝓤 ((r .src ≡ s) × (r .at ≡ n + m))))) (λ r e i. record { src = e .0 i; at = e .1 i })
 
 module _ {M : Type 1} {𝓤 : URA M} {H : Heap 𝓤} {A : Atoms 𝓤} {K : Type 0} {W : Given 𝓤 H A} {κ : Lft} {q : Share}
-    {Γ : List (Item 𝓤)} {E : Env 𝓤 H} {C : Calls 𝓤 H} {Λ : Loops 𝓤 H} {Q : Post 𝓤 H} {d : Place} {f : Name} {xs : List Operand} {rest : Body} where
+    {Γ : List (Item 𝓤)} {E : Env 𝓤 H} {C : Calls 𝓤 H} {Λ : Loops 𝓤 H} {Q : Post 𝓤 H} {d : Place} {f : Name} {xs : List Operand}
+    {rest : Body} where
   -- at the place n
-  pub makes : K → (s : RefT (List ℕ)) → FmC 𝓤 H (W .laws) C → Triple 𝓤 (C f) (ReaderAt 𝓤 H A) → (n : ℕ) → n < 2 ^ 64 → Γ ≡ token κ q ∷ ‵ (Own κ s) ∷ others H A Γ
+  pub makes : K → (s : RefT (List ℕ)) → FmC 𝓤 H (W .laws) C → Triple 𝓤 (C f) (ReaderAt 𝓤 H A) → (n : ℕ) → n < 2 ^ 64
+      → Γ ≡ token κ q ∷ ‵ (Own κ s) ∷ others H A Γ
       → Opds K W (raw (ReaderAt 𝓤 H A .pre (to-make 𝓤 H A κ q s n)) ∷ ‵ (Own κ s) ∷ others H A Γ) E xs (mach s ∷ vint w64 n ∷ [])
       → Step K W Γ (lands C Λ E d (at s n) rest Q) Γ (runs C Λ E (seq (call f xs d) rest) Q)
-  makes t s fm known n fits e os = step (λ k. asks t fm (ReaderAt 𝓤 H A) known (to-make 𝓤 H A κ q s n) (at s n) _ e (lends 𝓤 H A W κ s n fits q) (said-make 𝓤 H A W κ q s n) os (λ _. k))
+  makes t s fm known n fits e os =
+      step (λ k. asks t fm (ReaderAt 𝓤 H A) known (to-make 𝓤 H A κ q s n) (at s n) _ e (lends 𝓤 H A W κ s n fits q)
+      (said-make 𝓤 H A W κ q s n) os (λ _. k))
 
   -- the number in k bytes, by the function of width w
-  pub reads : K → (s : RefT (List ℕ)) → FmC 𝓤 H (W .laws) C → (w : Width) (k : ℕ) → Triple 𝓤 (C f) (OnReader 𝓤 H A w k) → (n : ℕ) → n < 2 ^ 64 → Γ ≡ token κ q ∷ ‵ (Own κ s) ∷ others H A Γ
+  pub reads : K → (s : RefT (List ℕ)) → FmC 𝓤 H (W .laws) C → (w : Width) (k : ℕ) → Triple 𝓤 (C f) (OnReader 𝓤 H A w k) → (n : ℕ)
+      → n < 2 ^ 64 → Γ ≡ token κ q ∷ ‵ (Own κ s) ∷ others H A Γ
       → Opds K W (raw (OnReader 𝓤 H A w k .pre (to-read 𝓤 H A κ q s w k n)) ∷ ‵ (Own κ s) ∷ others H A Γ) E xs (at s n ∷ [])
-      → (numberAt k (now s) n < 2 ^ bits w → Seq K W Γ (lands C Λ E d (vint w (numberAt k (now s) n)) rest Q)) → Seq K W Γ (runs C Λ E (seq (call f xs d) rest) Q)
+      → (numberAt k (now s) n < 2 ^ bits w → Seq K W Γ (lands C Λ E d (vint w (numberAt k (now s) n)) rest Q))
+      → Seq K W Γ (runs C Λ E (seq (call f xs d) rest) Q)
   reads t s fm w k known n fits e os after =
-      asks t fm (OnReader 𝓤 H A w k) known (to-read 𝓤 H A κ q s w k n) (vint w (numberAt k (now s) n)) _ e (lends-read 𝓤 H A W κ q s w k n fits) (said-read 𝓤 H A W κ q s w k n) os (λ is. after (is .1))
+      asks t fm (OnReader 𝓤 H A w k) known (to-read 𝓤 H A κ q s w k n) (vint w (numberAt k (now s) n)) _ e
+      (lends-read 𝓤 H A W κ q s w k n fits) (said-read 𝓤 H A W κ q s w k n) os (λ is. after (is .1))
 
   -- from the place n by m bytes
-  pub walks-on : K → (s : RefT (List ℕ)) → FmC 𝓤 H (W .laws) C → Triple 𝓤 (C f) (Past 𝓤 H A) → (n m : ℕ) → n < 2 ^ 64 → m < 2 ^ 64 → n + m < 2 ^ 64 → Γ ≡ token κ q ∷ ‵ (Own κ s) ∷ others H A Γ
+  pub walks-on : K → (s : RefT (List ℕ)) → FmC 𝓤 H (W .laws) C → Triple 𝓤 (C f) (Past 𝓤 H A) → (n m : ℕ) → n < 2 ^ 64 → m < 2 ^ 64
+      → n + m < 2 ^ 64 → Γ ≡ token κ q ∷ ‵ (Own κ s) ∷ others H A Γ
       → Opds K W (raw (Past 𝓤 H A .pre (to-walk 𝓤 H A κ q s n m)) ∷ ‵ (Own κ s) ∷ others H A Γ) E xs (at s n ∷ vint w64 m ∷ [])
       → Step K W Γ (lands C Λ E d (at s (n + m)) rest Q) Γ (runs C Λ E (seq (call f xs d) rest) Q)
-  walks-on t s fm known n m fits fits′ ok e os = step (λ k. asks t fm (Past 𝓤 H A) known (to-walk 𝓤 H A κ q s n m) (at s (n + m)) _ e (lends-walk 𝓤 H A W κ q s n m fits fits′ ok) (said-walk 𝓤 H A W κ q s n m) os (λ _. k))
+  walks-on t s fm known n m fits fits′ ok e os =
+      step (λ k. asks t fm (Past 𝓤 H A) known (to-walk 𝓤 H A κ q s n m) (at s (n + m)) _ e (lends-walk 𝓤 H A W κ q s n m fits fits′ ok)
+      (said-walk 𝓤 H A W κ q s n m) os (λ _. k))
+
+module _ {M : Type 1} {𝓤 : URA M} {H : Heap 𝓤} {A : Atoms 𝓤} {K : Type 0} {W : Given 𝓤 H A} {κ : Lft} {q : Share}
+    {Γ : List (Item 𝓤)} {E : Env 𝓤 H} {C : Calls 𝓤 H} {Λ : Loops 𝓤 H} {Q : Post 𝓤 H} {d : Place} {f : Name} {xs : List Operand} where
+  -- the same at the end of a turn
+  pub walks-on-last : K → (s : RefT (List ℕ)) → FmC 𝓤 H (W .laws) C → Triple 𝓤 (C f) (Past 𝓤 H A) → (n m : ℕ) → n < 2 ^ 64 → m < 2 ^ 64
+      → n + m < 2 ^ 64 → Γ ≡ token κ q ∷ ‵ (Own κ s) ∷ others H A Γ
+      → Opds K W (raw (Past 𝓤 H A .pre (to-walk 𝓤 H A κ q s n m)) ∷ ‵ (Own κ s) ∷ others H A Γ) E xs (at s n ∷ vint w64 m ∷ [])
+      → Step K W Γ (settles E d (at s (n + m)) Q) Γ (runs C Λ E (call f xs d) Q)
+  walks-on-last t s fm known n m fits fits′ ok e os =
+      step (λ k. asks-last t fm (Past 𝓤 H A) known (to-walk 𝓤 H A κ q s n m) (at s (n + m)) _ e
+      (lends-walk 𝓤 H A W κ q s n m fits fits′ ok) (said-walk 𝓤 H A W κ q s n m) os (λ _. k))

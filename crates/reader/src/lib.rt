@@ -29,7 +29,7 @@ pub struct TaskHead {
 }
 
 // A reader at a place.
-pub(crate) fn reader_at<'a>(src: &'a [u8], at: usize) -> Reader<'a>
+pub fn reader_at<'a>(src: &'a [u8], at: usize) -> Reader<'a>
     ensures { λ r. ⌜ (r .src ≡ src .entry) × (r .at ≡ at) ⌝ }
 {
     Reader { src, at }
@@ -55,7 +55,7 @@ pub(crate) fn word<'a>(r: Reader<'a>) -> u64
 }
 
 // The reader n bytes on.
-pub(crate) fn past<'a>(r: Reader<'a>, n: usize) -> Reader<'a>
+pub fn past<'a>(r: Reader<'a>, n: usize) -> Reader<'a>
     requires { ⌜ r .at + n < 2 ^ 64 ⌝ }
     ensures { λ q. ⌜ (q .src ≡ r .entry .src) × (q .at ≡ r .entry .at + n) ⌝ }
 {

@@ -4,7 +4,7 @@ use mathlib.Core.Path.{sym}
 use Prim.Native.Nat.{zero-le}
 use lib.ListN.{List·getD-eq-default}
 use Rattle.bodies.specs.declared.Form.the-variants.{Unknown}
-use Rattle.bodies.specs.Verdicts.{actionForms}
+use Rattle.bodies.specs.Faults.{actionForms}
 use Rattle.bodies.proofs.FormLaws.{next}
 use Rattle.bodies.proofs.action_form.Statement.{statement}
 use Rattle.bodies.proofs.action_form.Tie as tie
@@ -12,7 +12,8 @@ use Rattle.bodies.proofs.action_form.Tie as tie
 returns-4 : tie.Need-returns-4
 returns-4 c =
     let r = c .match .rest in
-    sym (List·getD-eq-default (actionForms (c .before .args .others) (c .before .args .i)) Unknown (next 2 (next 1 (next 0 zero-le (r .0 .0 .1)) (r .0 .1)) (r .1)))
+    sym (List·getD-eq-default (actionForms (c .before .args .others) (c .before .args .i)) Unknown
+    (next 2 (next 1 (next 0 zero-le (r .0 .0 .1)) (r .0 .1)) (r .1)))
 
 pub action-form-spec : {M : Type 1} → statement M
 action-form-spec =

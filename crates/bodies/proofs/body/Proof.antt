@@ -4,8 +4,8 @@ use Prim.Native.Nat.{_/_}
 use lib.ListN.{length}
 use borrow.Author.Tests.{eqb-true}
 use Rattle.meaning.specs.Layout.{items, ascending, mask, reference, clause}
-use Rattle.bodies.specs.Verdicts.{ruleOf}
-use Rattle.bodies.proofs.Verdicts.{from-unit}
+use Rattle.bytes.specs.ClauseRule.{clauseRule}
+use Rattle.bodies.proofs.Faults.{from-unit}
 use Rattle.bodies.proofs.BodyLaws.{form-fits, form-says}
 use borrow.Author.Needs.{needs}
 use Rattle.bodies.proofs.body.Statement.{statement}
@@ -30,7 +30,8 @@ returns-3 c =
     let form! = c .before .before .form in
     let a = c .before .before .before .before .before .args in
     form-says (form! .given .1) (a .part .now) (a .n) (a .start)
-    (from-unit (a .start) (ascending (reference (a .part .now) (form! .given .0 .0)) 2 0 0 (length (a .part .now) / 2)) (c .numbers .ensures))
+    (from-unit (a .start) (ascending (reference (a .part .now) (form! .given .0 .0)) 2 0 0 (length (a .part .now) / 2))
+    (c .numbers .ensures))
 
 returns-4 : tie.Need-returns-4
 returns-4 c =
@@ -43,7 +44,8 @@ returns-5 c =
     let form2! = c .before .before .form2 in
     let a = c .before .before .before .before .before .args in
     form-says (form2! .given .1) (a .part .now) (a .n) (a .start)
-    (from-unit (a .start) (items (clause (a .part .now) (a .n) (ruleOf (form2! .given .0 .0))) 16 0 (length (a .part .now) / 16)) (c .clauses .ensures))
+    (from-unit (a .start) (items (clause (a .part .now) (a .n) (clauseRule (form2! .given .0 .0))) 16 0 (length (a .part .now) / 16))
+    (c .clauses .ensures))
 
 returns-6 : tie.Need-returns-6
 returns-6 c =

@@ -2,7 +2,8 @@
 -- The loop's invariant: the clauses that are left say what all of them say.
 -- Assumes nothing.
 use Prim.Native.Nat.{_-_, _≤_}
-use Rattle.bodies.proofs.BodyLaws.{ClausesLeft, clauses-start, clauses-end, clause-positive, clause-negative, clause-rule, clause-next}
+use Rattle.bodies.proofs.BodyLaws.{ClausesLeft, clauses-start, clauses-end, clause-positive, clause-negative, clause-rule}
+use Rattle.bodies.proofs.BodyLaws.{clause-next}
 use borrow.Author.Needs.{needs}
 use Rattle.bodies.proofs.clauses.Statement.{statement}
 use Rattle.bodies.proofs.clauses.Tie as tie
@@ -21,37 +22,39 @@ loop-holds c =
 returns : tie.Need-returns Inv-loop μ-loop
 returns c =
     let l = c .before .before .before .loop in
-    let largest! = c .before .before .before .before .largest in
+    let facts! = c .before .before .before .before .all-facts in
     let a = c .before .before .before .before .before .before .args in
-    clause-positive (a .part .now) (a .n) (a .two) (a .start) (l .i) (l .inv .1) (search needs) (largest! .result) (largest! .ensures)
+    clause-positive (a .part .now) (a .n) (a .two) (a .start) (l .i) (l .inv .1) (search needs) (facts! .result) (facts! .ensures)
     (c .before .u64-at .ensures) (search needs) (search needs)
 
 returns-2 : tie.Need-returns-2 Inv-loop μ-loop
 returns-2 c =
     let l = c .before .before .before .before .before .loop in
-    let largest! = c .before .before .before .before .before .before .largest in
+    let facts! = c .before .before .before .before .before .before .all-facts in
     let a = c .before .before .before .before .before .before .before .before .args in
-    clause-negative (a .part .now) (a .n) (a .two) (a .start) (l .i) (l .inv .1) (search needs) (largest! .result) (largest! .ensures)
+    clause-negative (a .part .now) (a .n) (a .two) (a .start) (l .i) (l .inv .1) (search needs) (facts! .result) (facts! .ensures)
     (c .before .before .before .u64-at .ensures) (search needs) (search needs) (c .before .u64-at2 .ensures) (search needs) (search needs)
 
 returns-3 : tie.Need-returns-3 Inv-loop μ-loop
 returns-3 c =
     let l = c .before .before .before .before .before .before .before .loop in
-    let largest! = c .before .before .before .before .before .before .before .before .largest in
+    let facts! = c .before .before .before .before .before .before .before .before .all-facts in
     let u64-at! = c .before .before .before .before .before .u64-at in
     let a = c .before .before .before .before .before .before .before .before .before .before .args in
-    clause-rule (a .part .now) (a .n) (a .two) (a .start) (l .i) (l .inv .1) (search needs) (largest! .result) (largest! .ensures)
-    (u64-at! .ensures) (search needs) (search needs) (c .before .before .before .u64-at2 .ensures) (search needs) (search needs) (c .before .passes .ensures) (c .if3 .taken)
+    clause-rule (a .part .now) (a .n) (a .two) (a .start) (l .i) (l .inv .1) (search needs) (facts! .result) (facts! .ensures)
+    (u64-at! .ensures) (search needs) (search needs) (c .before .before .before .u64-at2 .ensures) (search needs) (search needs)
+    (c .before .passes .ensures) (c .if3 .taken)
 
 loop-again : tie.Need-loop-again Inv-loop μ-loop
 loop-again c =
     let l = c .before .before .before .before .before .before .before .loop in
-    let largest! = c .before .before .before .before .before .before .before .before .largest in
+    let facts! = c .before .before .before .before .before .before .before .before .all-facts in
     let u64-at! = c .before .before .before .before .before .u64-at in
     let a = c .before .before .before .before .before .before .before .before .before .before .args in (
       search needs,
-      clause-next (a .part .now) (a .n) (a .two) (a .start) (l .i) (l .inv .1) (search needs) (largest! .result) (largest! .ensures)
-          (u64-at! .ensures) (search needs) (search needs) (c .before .before .before .u64-at2 .ensures) (search needs) (search needs) (c .before .passes .ensures) (c .if3 .left),
+      clause-next (a .part .now) (a .n) (a .two) (a .start) (l .i) (l .inv .1) (search needs) (facts! .result) (facts! .ensures)
+          (u64-at! .ensures) (search needs) (search needs) (c .before .before .before .u64-at2 .ensures) (search needs) (search needs)
+          (c .before .passes .ensures) (c .if3 .left),
     )
 
 returns-4 : tie.Need-returns-4 Inv-loop μ-loop

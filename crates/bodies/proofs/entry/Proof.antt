@@ -2,9 +2,10 @@
 -- Assumes nothing.
 use Prim.Native.Nat.{ℕ, _+_, _-_}
 use native.Mathlib.Omega.{arith}
-use Rattle.bodies.specs.Verdicts.{formsOf}
+use Rattle.bodies.specs.Faults.{formsOf}
 use Rattle.bodies.proofs.FormLaws.{section-alike}
-use Rattle.bodies.proofs.EntryChecks.{Begun, begun, Kinded, kinded, entry-cut, entry-past, entry-ends, entry-none, entry-unknown, entry-unfit, entry-part, entry-body}
+use Rattle.bodies.proofs.EntryChecks.{Begun, begun, Kinded, kinded, entry-cut, entry-past, entry-ends, entry-none, entry-unknown}
+use Rattle.bodies.proofs.EntryChecks.{entry-unfit, entry-part, entry-body}
 use borrow.Author.Needs.{needs}
 use Rattle.bodies.proofs.entry.Statement.{statement}
 use Rattle.bodies.proofs.entry.Tie as tie
@@ -20,7 +21,8 @@ returns-2 c =
     let inside! = c .before .before .before .before .before .inside in
     let a = c .before .before .before .before .before .before .before .args in
     entry-past (a .file .now) (a .s .facts) _ _ (section-alike (a .file .now) (a .s) (a .i)) (a .place)
-    (inside! .ensures) (c .before .before .before .before .if1 .left) (λ i. c .before .before .before .entry-head .ensures i .len) (c .before .inside2 .ensures) (c .if2 .taken)
+    (inside! .ensures) (c .before .before .before .before .if1 .left) (λ i. c .before .before .before .entry-head .ensures i .len)
+    (c .before .inside2 .ensures) (c .if2 .taken)
 
 -- the entry lies in the file
 module _ (c : tie.Else2) where
@@ -42,7 +44,8 @@ kind : (c : tie.Else4)
     (start (c .before .before .before .before) .args .place) (len (c .before .before .before .before)) (c .before .before .form-at .result)
 kind c =
     let e = c .before .before .before .before in
-    kinded (lies e) _ (search needs) (λ i. e .before .before .before .entry-head .ensures i .kind) (c .before .before .form-at .ensures) (c .before .known .ensures) (c .if4 .left)
+    kinded (lies e) _ (search needs) (λ i. e .before .before .before .entry-head .ensures i .kind) (c .before .before .form-at .ensures)
+    (c .before .has-form .ensures) (c .if4 .left)
 
 returns-3 : tie.Need-returns-3
 returns-3 c =
@@ -54,27 +57,32 @@ returns-4 c =
     let e = c .before .before .before .before in
     let a = start e .args in
     entry-unknown (a .file .now) (a .s .facts) _ _ (section-alike (a .file .now) (a .s) (a .i)) (a .place) (lies e)
-    (search needs) (λ i. e .before .before .before .entry-head .ensures i .kind) (c .before .before .form-at .ensures) (c .before .known .ensures) (c .if4 .taken)
+    (search needs) (λ i. e .before .before .before .entry-head .ensures i .kind) (c .before .before .form-at .ensures)
+    (c .before .has-form .ensures) (c .if4 .taken)
 
 returns-5 : tie.Need-returns-5
 returns-5 c =
     let e = c .before .before .before .before .before .before in
     let a = start e .args in
-    entry-unfit (a .file .now) (a .s .facts) _ _ (section-alike (a .file .now) (a .s) (a .i)) (a .place) (lies e) (kind (c .before .before)) (c .before .fits2 .ensures) (c .if5 .taken)
+    entry-unfit (a .file .now) (a .s .facts) _ _ (section-alike (a .file .now) (a .s) (a .i)) (a .place) (lies e)
+    (kind (c .before .before)) (c .before .fits2 .ensures) (c .if5 .taken)
 
 body-requires : tie.Need-body-requires
 body-requires c κs =
     let e = c .before .before .before .before .before .before .before in
     let a = start e .args in
-    entry-part (a .file .now) (a .s .facts) _ _ (section-alike (a .file .now) (a .s) (a .i)) (a .place) (lies e) (kind (c .before .before .before))
+    entry-part (a .file .now) (a .s .facts) _ _ (section-alike (a .file .now) (a .s) (a .i)) (a .place) (lies e)
+    (kind (c .before .before .before))
     (c .before .before .fits2 .ensures) (c .before .if5 .left) (a .place + 2 + len e - (a .place + 3)) 65536 (omega arith) (search needs)
 
 returns-6 : tie.Need-returns-6
 returns-6 c =
     let e = c .before .before .before .before .before .before .before .before in
     let a = start e .args in
-    entry-body (a .file .now) (a .s .facts) _ _ (section-alike (a .file .now) (a .s) (a .i)) (a .place) (lies e) (kind (c .before .before .before .before))
-    (c .before .before .before .fits2 .ensures) (c .before .before .if5 .left) (a .place + 2 + len e - (a .place + 3)) (omega arith) (c .body .ensures)
+    entry-body (a .file .now) (a .s .facts) _ _ (section-alike (a .file .now) (a .s) (a .i)) (a .place) (lies e)
+    (kind (c .before .before .before .before))
+    (c .before .before .before .fits2 .ensures) (c .before .before .if5 .left) (a .place + 2 + len e - (a .place + 3)) (omega arith)
+    (c .body .ensures)
 
 pub entry-spec : {M : Type 1} → statement M
 entry-spec =

@@ -2,7 +2,7 @@
 -- Assumes nothing.
 use mathlib.Core.Path.{sym, ap, _∙_}
 use Rattle.bodies.specs.declared.Form.{Form}
-use Rattle.bodies.specs.Verdicts.{formFits}
+use Rattle.bodies.specs.Faults.{formFits}
 use borrow.Author.Needs.{needs}
 use Rattle.bodies.proofs.fits.Statement.{statement}
 use Rattle.bodies.proofs.fits.Tie as tie
@@ -11,13 +11,16 @@ returns-2 : tie.Need-returns-2
 returns-2 c = ap (λ (f : Form). formFits f (c .before .before .args .len)) (sym (c .enum-told2 .given .1))
 
 returns-3 : tie.Need-returns-3
-returns-3 c = c .up-to .ensures ∙ ap (λ (f : Form). formFits f (c .before .before .before .args .len)) (sym (c .before .enum-told3 .given .1))
+returns-3 c =
+    c .up-to .ensures ∙ ap (λ (f : Form). formFits f (c .before .before .before .args .len)) (sym (c .before .enum-told3 .given .1))
 
 returns-4 : tie.Need-returns-4
-returns-4 c = c .up-to2 .ensures ∙ ap (λ (f : Form). formFits f (c .before .before .before .args .len)) (sym (c .before .enum-told4 .given .1))
+returns-4 c =
+    c .up-to2 .ensures ∙ ap (λ (f : Form). formFits f (c .before .before .before .args .len)) (sym (c .before .enum-told4 .given .1))
 
 returns-5 : tie.Need-returns-5
-returns-5 c = c .up-to3 .ensures ∙ ap (λ (f : Form). formFits f (c .before .before .before .args .len)) (sym (c .before .enum-told5 .given .1))
+returns-5 c =
+    c .up-to3 .ensures ∙ ap (λ (f : Form). formFits f (c .before .before .before .args .len)) (sym (c .before .enum-told5 .given .1))
 
 returns-6 : tie.Need-returns-6
 returns-6 c = ap (λ (f : Form). formFits f (c .before .before .args .len)) (sym (c .enum-told6 .given .1))

@@ -2,7 +2,7 @@
 -- Assumes nothing.
 use mathlib.Core.Path.{sym, ap, _∙_}
 use mathlib.Core.Bool.{Bool}
-use Rattle.bodies.specs.Verdicts.{formsBy, formAt}
+use Rattle.bodies.specs.Faults.{formsBy, formAt}
 use borrow.Author.Needs.{needs}
 use Rattle.bodies.proofs.form_at.Statement.{statement}
 use Rattle.bodies.proofs.form_at.Tie as tie

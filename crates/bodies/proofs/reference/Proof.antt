@@ -2,7 +2,7 @@
 -- Assumes nothing.
 use mathlib.Core.Path.{ap}
 use Rattle.meaning.specs.Layout.{reference}
-use Rattle.bodies.proofs.Verdicts.{forget, from-fine, from-refused}
+use Rattle.bodies.proofs.Faults.{forget, from-fine, from-refused}
 use Rattle.bodies.proofs.FieldLaws.{reference-in, reference-high}
 use borrow.Author.Needs.{needs}
 use Rattle.bodies.proofs.reference.Statement.{statement}

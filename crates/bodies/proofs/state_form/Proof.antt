@@ -4,7 +4,7 @@ use mathlib.Core.Path.{sym}
 use Prim.Native.Nat.{zero-le}
 use lib.ListN.{List·getD-eq-default}
 use Rattle.bodies.specs.declared.Form.the-variants.{Unknown}
-use Rattle.bodies.specs.Verdicts.{stateForms}
+use Rattle.bodies.specs.Faults.{stateForms}
 use Rattle.bodies.proofs.FormLaws.{next}
 use Rattle.bodies.proofs.state_form.Statement.{statement}
 use Rattle.bodies.proofs.state_form.Tie as tie
@@ -12,7 +12,11 @@ use Rattle.bodies.proofs.state_form.Tie as tie
 returns-12 : tie.Need-returns-12
 returns-12 c =
     let r = c .match .rest in
-    sym (List·getD-eq-default (stateForms (c .before .args .others) (c .before .args .i)) Unknown (next 10 (next 9 (next 8 (next 7 (next 6 (next 5 (next 4 (next 3 (next 2 (next 1 (next 0 zero-le (r .0 .0 .0 .0 .0 .0 .0 .0 .0 .0 .1)) (r .0 .0 .0 .0 .0 .0 .0 .0 .0 .1)) (r .0 .0 .0 .0 .0 .0 .0 .0 .1)) (r .0 .0 .0 .0 .0 .0 .0 .1)) (r .0 .0 .0 .0 .0 .0 .1)) (r .0 .0 .0 .0 .0 .1)) (r .0 .0 .0 .0 .1)) (r .0 .0 .0 .1)) (r .0 .0 .1)) (r .0 .1)) (r .1)))
+    sym (List·getD-eq-default (stateForms (c .before .args .others) (c .before .args .i)) Unknown
+    (next 10 (next 9 (next 8 (next 7 (next 6 (next 5 (next 4 (next 3
+    (next 2 (next 1 (next 0 zero-le (r .0 .0 .0 .0 .0 .0 .0 .0 .0 .0 .1)) (r .0 .0 .0 .0 .0 .0 .0 .0 .0 .1))
+    (r .0 .0 .0 .0 .0 .0 .0 .0 .1)) (r .0 .0 .0 .0 .0 .0 .0 .1)) (r .0 .0 .0 .0 .0 .0 .1)) (r .0 .0 .0 .0 .0 .1)) (r .0 .0 .0 .0 .1))
+    (r .0 .0 .0 .1)) (r .0 .0 .1)) (r .0 .1)) (r .1)))
 
 pub state-form-spec : {M : Type 1} → statement M
 state-form-spec =

@@ -26,7 +26,8 @@ returns-3 c =
     let if1! = c .before .before .before .before .before .before .if1 in
     let u32-at! = c .before .before .before .before .before .u32-at in
     let if2! = c .before .before .before .before .if2 in
-    task-bad (a .file .now) (if1! .left) (u32-at! .ensures) (if2! .left) (c .before .v .given .1) (c .before .before .before .task .ensures)
+    task-bad (a .file .now) (if1! .left) (u32-at! .ensures) (if2! .left) (c .before .v .given .1)
+    (c .before .before .before .task .ensures)
 
 after-task-requires : tie.Need-after-task-requires
 after-task-requires c κs =
@@ -35,9 +36,11 @@ after-task-requires c κs =
     length-most (a .file .now) (if1! .left)
 
 -- a section's count is within the file
-ends : (c : tie.After-u16-at3) → (c .before .before .before .before .before .rest2 .given .0 .0 + 2 ≤ 65536) × (c .before .before .before .before .before .rest2 .given .0 .1 .0 + 2 ≤ 65536)
+ends : (c : tie.After-u16-at3) → (c .before .before .before .before .before .rest2 .given .0 .0 + 2 ≤
+    65536) × (c .before .before .before .before .before .rest2 .given .0 .1 .0 + 2 ≤ 65536)
 ends c =
-    let a = c .before .before .before .before .before .before .before .before .before .before .before .before .before .before .before .before .args in
+    let a = c .before .before .before .before .before .before .before .before .before .before .before .before .before .before .before
+    .before .args in
     let if1! = c .before .before .before .before .before .before .before .before .before .before .before .before .before .before .if1 in
     let head! = c .before .before .before .before .before .before .before .before .task-head in
     let rest2! = c .before .before .before .before .before .rest2 in
@@ -55,12 +58,14 @@ returns-4 c =
     let enum-told! = c .before .before .before .before .before .enum-told in
     let task! = c .before .before .before .before .before .before .before .task in
     let head! = c .before .before .before .before .task-head in
-    rest-bad (a .file .now) (if1! .left) (u32-at! .ensures) (if2! .left) (enum-told! .given .1) (task! .ensures) (λ i. head! .ensures i .facts) (λ i. head! .ensures i .actions)
+    rest-bad (a .file .now) (if1! .left) (u32-at! .ensures) (if2! .left) (enum-told! .given .1) (task! .ensures)
+    (λ i. head! .ensures i .facts) (λ i. head! .ensures i .actions)
     (c .before .rest .given .1) (c .before .before .before .after-task .ensures)
 
 returns-5 : tie.Need-returns-5
 returns-5 c =
-    let a = c .before .before .before .before .before .before .before .before .before .before .before .before .before .before .before .before .args in
+    let a = c .before .before .before .before .before .before .before .before .before .before .before .before .before .before .before
+    .before .args in
     let if1! = c .before .before .before .before .before .before .before .before .before .before .before .before .before .before .if1 in
     let u32-at! = c .before .before .before .before .before .before .before .before .before .before .before .before .before .u32-at in
     let if2! = c .before .before .before .before .before .before .before .before .before .before .before .before .if2 in
@@ -69,8 +74,10 @@ returns-5 c =
     let head! = c .before .before .before .before .before .before .before .before .task-head in
     let rest2! = c .before .before .before .before .before .rest2 in
     let after-task! = c .before .before .before .before .before .before .before .after-task in
-    lawful (a .file .now) (if1! .left) (u32-at! .ensures) (if2! .left) (enum-told! .given .1) (task! .ensures) (λ i. head! .ensures i .facts) (λ i. head! .ensures i .actions)
-    (λ i. head! .ensures i .init) (λ i. head! .ensures i .goal) (c .before .before .u16-at .ensures) (c .before .u16-at2 .ensures) (c .u16-at3 .ensures)
+    lawful (a .file .now) (if1! .left) (u32-at! .ensures) (if2! .left) (enum-told! .given .1) (task! .ensures)
+    (λ i. head! .ensures i .facts) (λ i. head! .ensures i .actions)
+    (λ i. head! .ensures i .init) (λ i. head! .ensures i .goal) (c .before .before .u16-at .ensures) (c .before .u16-at2 .ensures)
+    (c .u16-at3 .ensures)
     (rest2! .given .1) (after-task! .ensures)
 
 pub read-layout-spec : {M : Type 1} → statement M

@@ -2,6 +2,7 @@
 -- Assumes nothing.
 use Prim.Native.Nat.{_+_, _≤_}
 use lib.ListN.{length}
+use Rattle.layout.proofs.RowLaws.{steps-told}
 use Rattle.layout.proofs.SectionChecks.{count-ends, steps-none, steps-short, steps-more, steps-end}
 use borrow.Author.Needs.{needs}
 use Rattle.layout.proofs.steps.Statement.{statement}
@@ -13,28 +14,40 @@ returns c =
     steps-none (a .file .now) (a .place) (c .before .v .given .1) (c .before .before .before .count .ensures)
 
 -- the count of steps is within the file
-ends : (c : tie.After-enum-told) → c .before .before .before .before .args .place + 2 ≤ length (c .before .before .before .before .args .file .now)
+ends : (c : tie.After-enum-told) → c .before .before .before .before .args .place + 2 ≤ length
+    (c .before .before .before .before .args .file .now)
 ends c =
     let a = c .before .before .before .before .args in
     count-ends (a .file .now) 1 2048 (a .place) (c .enum-told .given .1) (c .before .before .count .ensures)
 
 returns-2 : tie.Need-returns-2
 returns-2 c =
-    let v = c .before .before in
+    let t = c .before .before .before in
+    let w = t .before in
+    let v = w .before .before in
     let a = v .before .before .before .before .args in
-    steps-short (a .file .now) (a .place) (v .enum-told .given .1) (v .before .before .count .ensures) (c .before .u16-at .ensures) (search needs)
+    steps-short (a .file .now) (a .place) (v .enum-told .given .1) (v .before .before .count .ensures) (w .before .u16-at .ensures)
+    (steps-told (a .file .now) (w .before .u16-at .result) (a .place + 2) (t .told .ensures) (w .walk .ensures)) (c .before .w .given .1)
 
 returns-3 : tie.Need-returns-3
 returns-3 c =
-    let v = c .before .before .before in
+    let t = c .before .before .before .before in
+    let w = t .before in
+    let v = w .before .before in
     let a = v .before .before .before .before .args in
-    steps-more (a .file .now) (a .place) (v .enum-told .given .1) (v .before .before .count .ensures) (c .before .before .u16-at .ensures) (search needs) (search needs)
+    steps-more (a .file .now) (a .place) (v .enum-told .given .1) (v .before .before .count .ensures) (w .before .u16-at .ensures)
+    (steps-told (a .file .now) (w .before .u16-at .result) (a .place + 2) (t .told .ensures) (w .walk .ensures))
+    (c .before .before .w2 .given .1) (search needs)
 
 returns-4 : tie.Need-returns-4
 returns-4 c =
-    let v = c .before .before .before in
+    let t = c .before .before .before .before in
+    let w = t .before in
+    let v = w .before .before in
     let a = v .before .before .before .before .args in
-    steps-end (a .file .now) (a .place) (v .enum-told .given .1) (v .before .before .count .ensures) (c .before .before .u16-at .ensures) (search needs) (search needs)
+    steps-end (a .file .now) (a .place) (v .enum-told .given .1) (v .before .before .count .ensures) (w .before .u16-at .ensures)
+    (steps-told (a .file .now) (w .before .u16-at .result) (a .place + 2) (t .told .ensures) (w .walk .ensures))
+    (c .before .before .w2 .given .1) (search needs)
 
 pub steps-spec : {M : Type 1} → statement M
 steps-spec =
@@ -44,15 +57,13 @@ steps-spec =
     (λ c. search needs)
     returns
     (λ c. search needs)
-    (λ c. let h = ends c in search needs)
+    (λ c κs. search needs)
+    (λ c. let h = ends (c .before) in search needs)
+    (λ c κs. let h = ends (c .before) in search needs)
     (λ c κs. search needs)
     (λ c. search needs)
     (λ c. search needs)
-    (λ c. let h = ends (c .before) in search needs)
     (λ c. search needs)
-    (λ c. let h = ends (c .before .before) in search needs)
     returns-2
-    (λ c. search needs)
-    (λ c. let h = ends (c .before .before) in search needs)
     returns-3
     returns-4)

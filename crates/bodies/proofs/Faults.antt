@@ -8,9 +8,9 @@ use mathlib.Core.List.{_∷_}
 use lib.Dec.{leb}
 use Rattle.meaning.specs.Result.{Result, refuse, found, _>>=_, need}
 use Rattle.meaning.specs.Layout.{items, ascending}
-use Rattle.bodies.specs.Verdicts.{verdict, verdictFrom}
-use Rattle.bodies.specs.declared.Verdict.{Verdict}
-use Rattle.bodies.specs.declared.Verdict.the-variants.{Fine, Refused}
+use Rattle.bodies.specs.Faults.{fault, faultFrom}
+use Rattle.bodies.specs.declared.Fault.{Fault}
+use Rattle.bodies.specs.declared.Fault.the-variants.{None, At}
 
 -- a reading whose value is forgotten
 abbrev pub forget : {A : Type 0} → Result A → Result (Unit {0})
@@ -19,32 +19,32 @@ forget (found a) = found tt
 
 -- ---- the answer
 
-pub told-fine : {A : Type 0} (r : Result A) → forget r ≡ found tt → Fine ≡ verdict r
+pub told-fine : {A : Type 0} (r : Result A) → forget r ≡ found tt → None ≡ fault r
 told-fine (refuse n p) e = let z : _≡_ {A = ℕ} 0 1 = cc in absurd (omega arith)
 told-fine (found a) e = refl
 
-pub told-refused : {A : Type 0} (r : Result A) (n p : ℕ) → forget r ≡ refuse n p → Refused n p ≡ verdict r
+pub told-refused : {A : Type 0} (r : Result A) (n p : ℕ) → forget r ≡ refuse n p → At n p ≡ fault r
 told-refused (refuse m q) n p e = cc
 told-refused (found a) n p e = let z : _≡_ {A = ℕ} 0 1 = cc in absurd (omega arith)
 
-pub told : {A B : Type 0} (r : Result A) (s : Result B) → forget r ≡ forget s → verdict r ≡ verdict s
+pub told : {A B : Type 0} (r : Result A) (s : Result B) → forget r ≡ forget s → fault r ≡ fault s
 told (refuse n p) s e = told-refused s n p (sym e)
 told (found a) s e = told-fine s (sym e)
 
-pub from-fine : {A : Type 0} (d : ℕ) (r : Result A) → forget r ≡ found tt → Fine ≡ verdictFrom d r
+pub from-fine : {A : Type 0} (d : ℕ) (r : Result A) → forget r ≡ found tt → None ≡ faultFrom d r
 from-fine d (refuse n p) e = let z : _≡_ {A = ℕ} 0 1 = cc in absurd (omega arith)
 from-fine d (found a) e = refl
 
-pub from-refused : {A : Type 0} (d : ℕ) (r : Result A) (n p : ℕ) → forget r ≡ refuse n p → Refused n (d + p) ≡ verdictFrom d r
-from-refused d (refuse m q) n p e = let i : m ≡ n = cc in let j : q ≡ p = cc in ap₂ (λ (x y : ℕ). Refused x (d + y)) (sym i) (sym j)
+pub from-refused : {A : Type 0} (d : ℕ) (r : Result A) (n p : ℕ) → forget r ≡ refuse n p → At n (d + p) ≡ faultFrom d r
+from-refused d (refuse m q) n p e = let i : m ≡ n = cc in let j : q ≡ p = cc in ap₂ (λ (x y : ℕ). At x (d + y)) (sym i) (sym j)
 from-refused d (found a) n p e = let z : _≡_ {A = ℕ} 0 1 = cc in absurd (omega arith)
 
 -- where there is no fault, there is a value
-pub found-of : {A : Type 0} (r : Result A) → Fine ≡ verdict r → (x : A) × (r ≡ found x)
+pub found-of : {A : Type 0} (r : Result A) → None ≡ fault r → (x : A) × (r ≡ found x)
 found-of (refuse n p) e = let z : _≡_ {A = ℕ} 0 1 = cc in absurd (omega arith)
 found-of (found a) e = (a, refl)
 
-pub refused-of : {A : Type 0} (r : Result A) (n p : ℕ) → Refused n p ≡ verdict r → r ≡ refuse n p
+pub refused-of : {A : Type 0} (r : Result A) (n p : ℕ) → At n p ≡ fault r → r ≡ refuse n p
 refused-of (refuse m q) n p e = cc
 refused-of (found a) n p e = let z : _≡_ {A = ℕ} 0 1 = cc in absurd (omega arith)
 
@@ -71,18 +71,19 @@ unfolding _>>=_
 forget-after (refuse n p) f = refl
 forget-after (found a) f = refl
 
-pub from-unit : {A : Type 0} (d : ℕ) (r : Result A) {v : Verdict} → v ≡ verdictFrom d r → v ≡ verdictFrom d (r >>= λ _. found (tt {0}))
+pub from-unit : {A : Type 0} (d : ℕ) (r : Result A) {v : Fault} → v ≡ faultFrom d r → v ≡ faultFrom d (r >>= λ _. found (tt {0}))
 unfolding _>>=_
 from-unit d (refuse n p) e = e
 from-unit d (found a) e = e
 
 module _ {A B : Type 0} (d : ℕ) where
-  pub from-on : (r : Result A) (s : Result B) {v w : Verdict} → v ≡ Fine → v ≡ verdictFrom d r → w ≡ verdictFrom d s → w ≡ verdictFrom d (r >>= λ _. s)
+  pub from-on : (r : Result A) (s : Result B) {v w : Fault} → v ≡ None → v ≡ faultFrom d r → w ≡ faultFrom d s
+      → w ≡ faultFrom d (r >>= λ _. s)
   unfolding _>>=_
   from-on (refuse n p) s g e y = let z : _≡_ {A = ℕ} 0 1 = cc in absurd (omega arith)
   from-on (found a) s g e y = y
 
-  pub from-stop : (r : Result A) (g : A → Result B) {v : Verdict} {n p : ℕ} → v ≡ Refused n p → v ≡ verdictFrom d r → Refused n p ≡ verdictFrom d (r >>= g)
+  pub from-stop : (r : Result A) (g : A → Result B) {v : Fault} {n p : ℕ} → v ≡ At n p → v ≡ faultFrom d r → At n p ≡ faultFrom d (r >>= g)
   unfolding _>>=_
   from-stop (refuse n p) g y e = sym y ∙ e
   from-stop (found a) g y e = let z : _≡_ {A = ℕ} 0 1 = cc in absurd (omega arith)
@@ -123,11 +124,13 @@ module _ (read : ℕ → Result ℕ) (size count : ℕ) where
       ∙ forget-after (ascending read size (suc x) (p + size) (count - (i + 1))) (λ xs. x ∷ xs)
       ∙ ap (λ (j : ℕ). forget (ascending read size (suc x) j (count - (i + 1)))) e
 
-  pub ascending-stop : (i low p : ℕ) {n q : ℕ} → i < count → read p ≡ refuse n q → forget (ascending read size low p (count - i)) ≡ refuse n q
+  pub ascending-stop : (i low p : ℕ) {n q : ℕ} → i < count → read p ≡ refuse n q
+      → forget (ascending read size low p (count - i)) ≡ refuse n q
   unfolding ascending
   ascending-stop i low p h f = ap (λ (k : ℕ). forget (ascending read size low p k)) (left-suc count i h) ∙ ap forget (stops _ f)
 
-  pub ascending-low : (i low p : ℕ) {x : ℕ} → i < count → read p ≡ found x → leb low x ≡ false → forget (ascending read size low p (count - i)) ≡ refuse 7 p
+  pub ascending-low : (i low p : ℕ) {x : ℕ} → i < count → read p ≡ found x → leb low x ≡ false
+      → forget (ascending read size low p (count - i)) ≡ refuse 7 p
   unfolding ascending
   ascending-low i low p h f t =
       ap (λ (k : ℕ). forget (ascending read size low p k)) (left-suc count i h) ∙ ap forget (goes-on _ f ∙ failed 7 p _ t)
@@ -135,23 +138,3 @@ module _ (read : ℕ → Result ℕ) (size count : ℕ) where
   pub ascending-end : (i low p : ℕ) → count ≤ i → forget (ascending read size low p (count - i)) ≡ found tt
   unfolding ascending
   ascending-end i low p h = let e : count - i ≡ 0 = omega arith in ap (λ (k : ℕ). forget (ascending read size low p k)) e
-
--- ---- the same at any place of the file
-
-module _ {A : Type 0} (read : ℕ → Result A) (size count place : ℕ) where
-  -- the items from number i on, at place p, say what all of them say
-  abbrev pub ItemsLeft : ℕ → ℕ → Type 0
-  ItemsLeft i p = forget (items read size p (count - i)) ≡ forget (items read size place count)
-
-  pub items-start : ItemsLeft 0 place
-  items-start = none-yet (λ (k : ℕ). forget (items read size place k)) count
-
-  module _ (i p : ℕ) (left : ItemsLeft i p) where
-    pub items-done : count ≤ i → Fine ≡ verdict (items read size place count)
-    items-done h = told-fine (items read size place count) (sym left ∙ items-end read size count i p h)
-
-    pub item-bad : {n q : ℕ} → i < count → read p ≡ refuse n q → Refused n q ≡ verdict (items read size place count)
-    item-bad h f = told-refused (items read size place count) _ _ (sym left ∙ items-stop read size count i p h f)
-
-    pub item-good : {x : A} → i < count → read p ≡ found x → ItemsLeft (i + 1) (p + size)
-    item-good h f = sym (items-next read size count i p (p + size) h refl f) ∙ left

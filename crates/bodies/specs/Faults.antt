@@ -5,28 +5,24 @@ use mathlib.Core.Bool.{Bool, true, false}
 use mathlib.Core.List.{List, [], _∷_}
 use lib.ListN.{getD}
 use lib.Dec.{eqb}
-use Rattle.bodies.specs.declared.Verdict.{Verdict}
-use Rattle.bodies.specs.declared.Verdict.the-variants.{Fine, Refused}
+use Rattle.bodies.specs.declared.Fault.{Fault}
+use Rattle.bodies.specs.declared.Fault.the-variants.{None, At}
 use Rattle.bodies.specs.declared.Form.{Form}
 use Rattle.bodies.specs.declared.Form.the-variants.{Unknown, Bare, Numbers, States, Clauses, One, Two}
 use Rattle.bodies.specs.declared.Section.{Section}
 use Rattle.meaning.specs.Result.{Result, refuse, found, _>>=_}
 use Rattle.meaning.specs.File.{ActionSet, StateSet}
-use Rattle.meaning.specs.Layout.{hornRule, twoCnfRule, items, ascending, mask, reference, clause, upTo, Kind, actionKinds, stateKinds}
+use Rattle.bytes.specs.ClauseRule.{clauseRule}
+use Rattle.meaning.specs.Layout.{items, ascending, mask, reference, clause, upTo, Kind, actionKinds, stateKinds}
 
-abbrev pub verdict : {A : Type 0} → Result A → Verdict
-verdict (refuse r p) = Refused r p
-verdict (found a) = Fine
+abbrev pub fault : {A : Type 0} → Result A → Fault
+fault (refuse r p) = At r p
+fault (found a) = None
 
 -- the same of a part of the file, which starts at place d
-abbrev pub verdictFrom : {A : Type 0} → ℕ → Result A → Verdict
-verdictFrom d (refuse r p) = Refused r (d + p)
-verdictFrom d (found a) = Fine
-
--- the rule of two-literal clauses, or of Horn clauses
-unfoldable pub ruleOf : Bool → ℕ → ℕ → Bool
-ruleOf true = twoCnfRule
-ruleOf false = hornRule
+abbrev pub faultFrom : {A : Type 0} → ℕ → Result A → Fault
+faultFrom d (refuse r p) = At r (d + p)
+faultFrom d (found a) = None
 
 -- ---- the kinds of entry by what their bodies hold
 
@@ -79,7 +75,7 @@ formBody bytes n States p len = do
   _ ← ascending (mask bytes n) 8 0 p (len / 8)
   found tt
 formBody bytes n (Clauses two) p len = do
-  _ ← items (clause bytes n (ruleOf two)) 16 p (len / 16)
+  _ ← items (clause bytes n (clauseRule two)) 16 p (len / 16)
   found tt
 formBody bytes n (One a) p len = do
   _ ← reference bytes a p
