@@ -1,54 +1,55 @@
--- The tests of reply 8 as the code makes them, of a step's fields.
+-- The tests of reply 8 as the code makes them, of a step's value.
 -- Assumes nothing.
-use mathlib.Core.Path.{_≡_, refl, ap, subst}
+use mathlib.Core.Path.{_≡_, refl, sym, ap, subst}
 use Prim.Native.Nat.{ℕ, zero, suc, _-_, _≤_, _<_}
 use native.Mathlib.Omega.{arith}
 use mathlib.Core.Bool.{Bool, true, false, _&&_}
 use mathlib.Core.List.{List, [], _∷_}
-use lib.Dec.{T, ltb, eqb}
+use lib.Dec.{T, ltb, eqb, eqb→eq}
 use lib.ListN.{length, getD, take, drop, List·getD-eq-default}
 use lib.Seq.{take-nil, drop-nil}
-use borrow.Author.Tests.{lt-ltb}
+use borrow.Author.Tests.{lt-ltb, ne-eqb}
 use Rattle.task.specs.Reach.{every}
+use Rattle.task.proofs.Tests.{holds, and-left, and-right}
 use Rattle.certificate.specs.declared.Places.{Places}
-use Rattle.certificate.specs.declared.Judgement.the-variants.{Dead}
-use Rattle.certificate.specs.declared.views.Fields.{Fields}
+use Rattle.certificate.specs.declared.Step as code
+use Rattle.certificate.specs.declared.Judgement.the-variants.{Dead, Within, ActionsWithin}
 use Rattle.meaning.specs.File.{Step, File, stepAt}
-use Rattle.certificate.specs.Views as views
-use Rattle.certificate.specs.Index.{fieldsOf}
-use Rattle.certificate.specs.Known.{Known, decoded}
+use Rattle.certificate.specs.Views.{premisesIn, premiseList, cleanOf, judgementOf, stepOf}
+use Rattle.certificate.specs.Known.{decoded}
 use Rattle.meaning.proofs.Order.{all-at}
-use Rattle.certificate.proofs.KnownLaws.{known-read, known-steps}
-use Rattle.certificate.proofs.TableLaws.{NoneOf}
+use Rattle.certificate.proofs.KnownLaws.{read-file, placed-steps}
 use Rattle.meaning.specs.Step.{entriesFit, wellFormed}
-use Rattle.numbers.specs.Numbers.{premisesOf, judgementOf}
-use Rattle.rules.specs.Derives.{judgementAt}
-use Rattle.derivation.specs.Formed.{placeFits, formedUnder, formed}
-use Rattle.rules.proofs.RuleLaws.{and-assoc, and-true}
+use Rattle.numbers.specs.Numbers.{premisesOf, judgementKindOf}
+use Rattle.numbers.proofs.Packed.{kind-bound}
+use Rattle.rules.specs.Derives.{kindSaid}
+use Rattle.derivation.specs.Formed.{placeFits, entriesIn, formedUnder, formed, IsStep}
+use Rattle.rules.proofs.RuleLaws.{and-assoc, and-true, and-false, and-comm}
 use Rattle.derivation.proofs.StepLaws.{rule-known, rule-none, rule-past}
 
 -- the three premises of a step
 abbrev pub listing : List ℕ → List ℕ
-listing ps = getD ps 0 0 ∷ getD ps 1 0 ∷ getD ps 2 0 ∷ []
+listing ps = premiseList (premisesIn ps)
 
-listed : (ps : List ℕ) → length ps ≡ 3 → ps ≡ listing ps
+pub listed : (ps : List ℕ) → length ps ≡ 3 → ps ≡ listing ps
 listed [] e = absurd (omega arith)
 listed (a ∷ []) e = absurd (omega arith)
 listed (a ∷ b ∷ []) e = absurd (omega arith)
 listed (a ∷ b ∷ c ∷ []) e = refl
 listed (a ∷ b ∷ c ∷ d ∷ ds) e = absurd (omega arith)
 
-module _ (bytes : List ℕ) (at : Places) (index : List ℕ) (k : Known bytes at index) where
-  pub three-premises : (n : ℕ) → n < at .steps → stepAt (decoded bytes) n .premises ≡ listing (stepAt (decoded bytes) n .premises)
+-- what step k of a file has
+module _ (bytes : List ℕ) (at : Places) (k : ℕ) (s : code.Step) (h : IsStep bytes at k s) where
+  three-read : length (stepAt (decoded bytes) k .premises) ≡ 3
   unfolding stepAt
-  three-premises n l =
-      listed _
-      (all-at (λ _ (s : Step). length (s .premises) ≡ 3) (record { rule = 0; kind = 0; left = 0; right = 0; premises = [] }) 0 (decoded bytes .steps) (known-read bytes at index k .three) n (rw (known-steps bytes at index k) at l))
+  three-read =
+      let l = h .below in
+      let e = placed-steps bytes at (h .placed) in
+      all-at (λ _ (x : Step). length (x .premises) ≡ 3) (record { rule = 0; kind = 0; left = 0; right = 0; premises = [] }) 0
+      (decoded bytes .steps) (read-file bytes (h .placed .read) .three) k (omega arith)
 
-  -- past the last step
-  pub said-past : (n : ℕ) → at .steps ≤ n → Dead 0 ≡ judgementAt (decoded bytes) n
-  unfolding judgementAt stepAt views.judgementOf
-  said-past n l = rw (List·getD-eq-default (decoded bytes .steps) (record { rule = 0; kind = 0; left = 0; right = 0; premises = [] }) (rw (known-steps bytes at index k) at l)) refl
+  pub three-premises : stepAt (decoded bytes) k .premises ≡ listing (stepAt (decoded bytes) k .premises)
+  three-premises = listed _ three-read
 
 -- a test that fails and holds
 pub unused : {X : Type 0} {b : Bool} → b ≡ false → b ≡ true → X
@@ -63,45 +64,99 @@ places-fit zero a b c i = simp (and-assoc, and-true)
 places-fit (suc zero) a b c i = simp (and-assoc, and-true)
 places-fit (suc (suc zero)) a b c i = simp (and-assoc, and-true)
 places-fit (suc (suc (suc n))) a b c i =
-    simp (lt-ltb 0 (suc (suc (suc n))) (omega arith), lt-ltb 1 (suc (suc (suc n))) (omega arith), lt-ltb 2 (suc (suc (suc n))) (omega arith), take-nil {A = ℕ} n, drop-nil {A = ℕ} n, and-assoc, and-true)
+    simp (
+      lt-ltb 0 (suc (suc (suc n))) (omega arith),
+      lt-ltb 1 (suc (suc (suc n))) (omega arith),
+      lt-ltb 2 (suc (suc (suc n))) (omega arith),
+      take-nil {A = ℕ} n,
+      drop-nil {A = ℕ} n,
+      and-assoc,
+      and-true,
+    )
 
--- a judgement kind that is none of 0, 1 and 2
-pub entries-left : (f : File) (k a b : ℕ) → NoneOf 0 3 k → (eqb a 0 && eqb b 0) ≡ entriesFit f k a b
-unfolding entriesFit
-entries-left f zero a b h = absurd (h .0 .0 .1 refl)
-entries-left f (suc zero) a b h = absurd (h .0 .1 refl)
-entries-left f (suc (suc zero)) a b h = absurd (h .1 refl)
-entries-left f (suc (suc (suc k))) a b h = refl
+-- a kind that is asked for, between two more tests
+asked : (k j : ℕ) (c w r : Bool) → (k ≡ j → (c && w) ≡ r) → (c && eqb k j && w) ≡ (eqb k j && r)
+asked k j c w r h = go (eqb k j) refl
+  where
+    go : (b : Bool) → eqb k j ≡ b → (c && b && w) ≡ (b && r)
+    go true e = rw (and-true c) (h (eqb→eq k j (holds e)))
+    go false e = rw (and-false c) refl
 
-module _ (f : File) (i : ℕ) (s : Step) {x : Fields} (e : x ≡ fieldsOf s) where
-  same-rule : x .rule ≡ s .rule
-  unfolding fieldsOf
-  same-rule = ap (λ (y : Fields). y .rule) e
+-- what a step says, and whether its unused places are zero, against judgement kind j
+said-fit : (f : File) (k a b j : ℕ) → j < 4
+    → (cleanOf k a b && eqb (kindSaid (judgementOf k a b)) j && entriesIn f (judgementOf k a b)) ≡ (eqb k j && entriesFit f j a b)
+unfolding cleanOf judgementOf kindSaid entriesIn entriesFit
+said-fit f zero a b j l =
+    asked 0 j (cleanOf 0 a b) (entriesIn f (Dead a)) (entriesFit f j a b)
+    (λ e. rw (← e) (and-comm (eqb b 0) (ltb a (length (f .stateSets)))))
+said-fit f (suc zero) a b j l = asked 1 j true (entriesIn f (Within a b)) (entriesFit f j a b) (λ e. rw (← e) refl)
+said-fit f (suc (suc zero)) a b j l = asked 2 j true (entriesIn f (ActionsWithin a b)) (entriesFit f j a b) (λ e. rw (← e) refl)
+said-fit f (suc (suc (suc zero))) a b j l =
+    asked 3 j (cleanOf 3 a b) true (entriesFit f j a b) (λ e. rw (← e) (and-true (eqb a 0 && eqb b 0)))
+said-fit f (suc (suc (suc (suc k)))) a b j l = rw (ne-eqb (suc (suc (suc (suc k)))) j (λ e. omega arith)) refl
+
+module _ (f : File) (i : ℕ) (x : Step) {s : code.Step} (e : s ≡ stepOf x) where
+  pub same-rule : s .rule ≡ x .rule
+  unfolding stepOf
+  same-rule = ap (λ (y : code.Step). y .rule) e
 
   -- no rule's number
-  pub formed-none : x .rule < 1 → false ≡ formed f i s
+  pub formed-none : s .rule < 1 → false ≡ formed f i x
   unfolding formed formedUnder
-  formed-none l = let z : s .rule ≡ 0 = let q = same-rule in omega arith in rw (z, rule-none f)
+  formed-none l = let z : x .rule ≡ 0 = let q = same-rule in omega arith in rw (z, rule-none f)
 
-  pub formed-past : 28 < x .rule → false ≡ formed f i s
+  pub formed-past : 28 < s .rule → false ≡ formed f i x
   unfolding formed formedUnder
   formed-past l =
       let q = same-rule in
-      let z : s .rule ≡ suc (s .rule - 1) = omega arith in
-      rw (z, rule-past f (s .rule - 1) (omega arith))
+      let z : x .rule ≡ suc (x .rule - 1) = omega arith in
+      rw (z, rule-past f (x .rule - 1) (omega arith))
 
   -- a known rule's number
-  formed-by-table : 1 ≤ x .rule → x .rule ≤ 28 → formed f i s ≡ wellFormed f i s (judgementOf (s .rule)) (premisesOf (s .rule))
+  formed-by-table : 1 ≤ s .rule → s .rule ≤ 28 → formed f i x ≡ wellFormed f i x (judgementKindOf (x .rule)) (premisesOf (x .rule))
   unfolding formed formedUnder
   formed-by-table lo hi =
       let q = same-rule in
-      let n = rule-known f (s .rule) (omega arith) (omega arith) in
+      let n = rule-known f (x .rule) (omega arith) (omega arith) in
       rw (n .numbered, n .judgement, n .premises)
 
   -- the tests, by the table of rules
-  pub formed-tests : {j c : ℕ} {w p : Bool} → 1 ≤ x .rule → x .rule ≤ 28 → j ≡ judgementOf (x .rule) → c ≡ premisesOf (x .rule)
-      → w ≡ entriesFit f j (x .left) (x .right)
-      → p ≡ (every (λ q. ltb q i) (take c (listing (x .premises))) && every (λ q. eqb q 0) (drop c (listing (x .premises))))
-      → s .premises ≡ listing (s .premises) → ((eqb (x .kind) j && w) && p) ≡ formed f i s
-  unfolding wellFormed fieldsOf
-  formed-tests lo hi hj hc hw hp l = rw (hw, hp, hj, hc, formed-by-table lo hi, e, ← l) (simp and-assoc)
+  pub formed-tests : {m j c : ℕ} {w p : Bool} → 1 ≤ s .rule → s .rule ≤ 28 → m ≡ kindSaid (s .judgement) → j ≡ judgementKindOf (s .rule)
+      → c ≡ premisesOf (s .rule) → w ≡ entriesIn f (s .judgement)
+      → p ≡ (every (λ q. ltb q i) (take c (premiseList (s .premises))) && every (λ q. eqb q 0) (drop c (premiseList (s .premises))))
+      → x .premises ≡ listing (x .premises) → (((s .clean && eqb m j) && w) && p) ≡ formed f i x
+  unfolding wellFormed stepOf
+  formed-tests lo hi hm hj hc hw hp l =
+      rw (
+        hw,
+        hp,
+        hm,
+        hj,
+        hc,
+        formed-by-table lo hi,
+        e,
+        ← l,
+        said-fit f (x .kind) (x .left) (x .right) (judgementKindOf (x .rule)) (kind-bound (x .rule)),
+      )
+      (simp and-assoc)
+
+  -- a step that passed 8 says what its rule gives, of entries in the file
+  pub formed-says : T (formed f i x) → 1 ≤ s .rule → s .rule ≤ 28
+      → (kindSaid (s .judgement) ≡ judgementKindOf (s .rule)) × T (entriesIn f (s .judgement))
+  unfolding wellFormed stepOf
+  formed-says t lo hi =
+      let j = judgementKindOf (x .rule) in
+      let fit = eqb (x .kind) j && entriesFit f j (x .left) (x .right) in
+      let earlier = every (λ p. ltb p i) (take (premisesOf (x .rule)) (x .premises)) in
+      let zeros = every (λ p. eqb p 0) (drop (premisesOf (x .rule)) (x .premises)) in
+      let clean = cleanOf (x .kind) (x .left) (x .right) in
+      let said = judgementOf (x .kind) (x .left) (x .right) in
+      let kind = eqb (kindSaid said) j in
+      let w : T (fit && earlier && zeros) = subst T (formed-by-table lo hi) t in
+      let u : T fit = and-left fit earlier (and-left (fit && earlier) zeros w) in
+      let v : T (clean && kind && entriesIn f said) =
+      subst T (sym (said-fit f (x .kind) (x .left) (x .right) j (kind-bound (x .rule)))) u in
+      rw e (
+        eqb→eq (kindSaid said) j (and-right clean kind (and-left (clean && kind) (entriesIn f said) v)),
+        and-right (clean && kind) (entriesIn f said) v,
+      )

@@ -1,28 +1,48 @@
 -- The reply to one step, from what the code finds.
 -- Assumes nothing.
-use mathlib.Core.Path.{_≡_, refl, sym, ap, _∙_, subst}
+use mathlib.Core.Path.{_≡_, refl, sym, ap, _∙_}
 use mathlib.Core.Option.{Option, some}
 use Prim.Native.Nat.{ℕ, zero, suc, _-_, _≤_, _<_}
 use native.Mathlib.Omega.{arith}
+use native.Mathlib.Decide.{decLt}
 use mathlib.Core.Bool.{Bool, true, false, _&&_}
-use lib.ListN.{length, take, drop, getElem?}
-use lib.Dec.{T, eqb, ltb, ltb→lt}
-use Rattle.task.specs.Reach.{every}
-use Rattle.task.proofs.Tests.{and-left, and-right, holds}
+use mathlib.Core.List.{List, map}
+use lib.ListN.{length, getElem?}
+use lib.Dec.{T, ltb, ltb→lt}
+use borrow.Author.Tests.{eq-eqb}
+use denote.Enum.Declared.{tagOf}
+use types.Run.{OneOf}
+use Rattle.task.proofs.Tests.{holds, and-left, and-right}
 use Rattle.meaning.specs.Result.{_>>=_, need}
-use Rattle.certificate.specs.declared.views.Fields.{Fields}
 use Rattle.meaning.specs.File.{Step, File, stepAt}
-use Rattle.certificate.specs.Index.{fieldsOf}
 use Rattle.meaning.specs.Statements.{Statement, statements}
-use Rattle.inclusion.specs.declared.Verdict.{Verdict}
+use Rattle.meaning.specs.Step.{statement, allRules, ruleAt, checkBy, checkStep}
+use Rattle.certificate.specs.declared.Places.{Places}
+use Rattle.certificate.specs.declared.Step as code
+use Rattle.certificate.specs.declared.Judgement.{Judgement}
+use Rattle.certificate.specs.declared.Judgement.the-variants.{ActionsWithin}
+use Rattle.certificate.proofs.Judgement as judgements
+use Rattle.certificate.specs.declared.StepReply.{StepReply}
+use Rattle.certificate.specs.declared.StepReply.the-variants.{Passed, Refused}
+use Rattle.certificate.specs.Views.{judgementOf, judgementAt, stepOf}
+use Rattle.certificate.specs.Known.{decoded}
+use Rattle.inclusion.specs.declared.Verdict.the-variants.{Holds, Untrue, NotPermitted}
 use Rattle.inclusion.specs.Verdict.{verdictBy, verdictOr, verdictOf}
-use Rattle.derivation.specs.declared.reply.StepReply.{StepReply}
-use Rattle.derivation.specs.declared.reply.StepReply.the-variants.{Passed, Refused}
-use Rattle.meaning.specs.Step.{statement, derivation, judgementKind, premiseCount, allRules, ruleAt, entriesFit, wellFormed, checkBy, checkStep}
-use Rattle.rules.specs.Derives.{ruleNumbered, derives}
-use Rattle.derivation.specs.Formed.{formedUnder, formed, Derivable}
-use Rattle.derivation.specs.StepReply.{stepReply, verdictReply}
-use Rattle.derivation.proofs.StepLaws.{step-unformed, step-formed, step-derived}
+use Rattle.numbers.specs.Numbers.{ruleTable, judgementKindOf}
+use Rattle.patterns.specs.Matched.{matched}
+use Rattle.rules.specs.Derives.{ruleNumbered, derives, kindSaid, leftSaid, rightSaid, byRule}
+use Rattle.patterns.proofs.Views.{others}
+use Rattle.rules.proofs.Saying.{derives-follows}
+use Rattle.rules.proofs.RuleLaws.{other-kind}
+use Rattle.derivation.specs.Formed.{formed, entriesIn, IsStep}
+use Rattle.derivation.specs.StepReply.{stepReply, verdictReply, ruleReply}
+use Rattle.derivation.proofs.StepLaws.{step-unformed, step-formed, step-derived, rule-in-table, rule-some, kind-concluded}
+use Rattle.derivation.proofs.FormedLaws.{listing, three-premises, same-rule, formed-says, unused}
+
+need-reply : (b : Bool) (i : ℕ) → matched b ≡ stepReply (need b 9 i)
+unfolding matched need stepReply
+need-reply true i = refl
+need-reply false i = refl
 
 -- ---- basic statements
 
@@ -42,19 +62,21 @@ basic-rule f (suc (suc (suc (suc zero)))) l h = record { said = _; numbered = re
 basic-rule f (suc (suc (suc (suc (suc zero))))) l h = record { said = _; numbered = refl; listed = refl }
 basic-rule f (suc (suc (suc (suc (suc (suc n)))))) l h = absurd (omega arith)
 
-said-reply : (f : File) (i : ℕ) (s : Step) (b : Statement) → verdictReply (verdictBy b (s .left) (s .right)) ≡ stepReply (checkBy f i s (statement b))
+said-reply : (f : File) (i : ℕ) (s : Step) (b : Statement)
+    → verdictReply (verdictBy b (s .left) (s .right)) ≡ stepReply (checkBy f i s (statement b))
 unfolding verdictReply verdictBy stepReply checkBy _>>=_ need
 said-reply f i s b = go (b .shape (s .left) (s .right)) (b .holds (s .left) (s .right))
   where
     go : (x y : Bool)
-        → verdictReply (elim x [ true ↦ elim y [ true ↦ Rattle.inclusion.specs.declared.Verdict.the-variants.Holds | false ↦ Rattle.inclusion.specs.declared.Verdict.the-variants.Untrue ] | false ↦ Rattle.inclusion.specs.declared.Verdict.the-variants.NotPermitted ])
+        → verdictReply (elim x [ true ↦ elim y [ true ↦ Holds | false ↦ Untrue ] | false ↦ NotPermitted ])
         ≡ stepReply (need x 10 i >>= (λ u. need y 11 i))
     go true true = refl
     go true false = refl
     go false y = refl
 
 module _ (f : File) (i : ℕ) (s : Step) where
-  pub basic-reply : 1 ≤ s .rule → s .rule ≤ 5 → formed f i s ≡ true → verdictReply (verdictOf f (s .rule) (s .left) (s .right)) ≡ stepReply (checkStep f i s)
+  pub basic-reply : 1 ≤ s .rule → s .rule ≤ 5 → formed f i s ≡ true
+      → verdictReply (verdictOf f (s .rule) (s .left) (s .right)) ≡ stepReply (checkStep f i s)
   unfolding verdictOf verdictOr
   basic-reply l h e =
       let b = basic-rule f (s .rule) l h in
@@ -65,77 +87,94 @@ module _ (f : File) (i : ℕ) (s : Step) where
   unfolding stepReply
   unformed-reply e = sym (ap stepReply (step-unformed f i s e))
 
-  derived-by : T (formed f i s) → 5 < s .rule → (b : Bool) → derives f (ruleNumbered (s .rule)) s ≡ b → stepReply (checkStep f i s) ≡ stepReply (need b 9 i)
-  derived-by t l b e = ap stepReply (step-derived f i s t l ∙ ap (λ (x : Bool). need x 9 i) e)
+  -- a derivation, by what the step and its premises say
+  pub derived-reply : T (formed f i s) → 5 < s .rule → s .premises ≡ listing (s .premises)
+      → ruleReply f (stepOf s) ≡ stepReply (checkStep f i s)
+  unfolding stepOf
+  derived-reply t l e =
+      ap (λ (ps : List ℕ). byRule f (s .rule) (judgementOf (s .kind) (s .left) (s .right)) (map (judgementAt f) ps)) (sym e)
+      ∙ ap matched (sym (derives-follows f (s .rule) s (kind-concluded f i s t l))) ∙ need-reply (derives f (ruleNumbered (s .rule)) s) i
+      ∙ sym (ap stepReply (step-derived f i s t l))
 
-  pub derived-reply : T (formed f i s) → 5 < s .rule → derives f (ruleNumbered (s .rule)) s ≡ true → Passed ≡ stepReply (checkStep f i s)
-  unfolding stepReply need
-  derived-reply t l e = sym (derived-by t l true e)
+-- B1 to B4 are about two state sets, B5 about two action sets
+pub sets-kind : (n : ℕ) → (1 ≤ n) × (n ≤ 5) → (n ≡ 5 → ⊥) → judgementKindOf n ≡ 1
+unfolding judgementKindOf ruleTable
+sets-kind zero (l, h) m = absurd (omega arith)
+sets-kind (suc zero) l m = refl
+sets-kind (suc (suc zero)) l m = refl
+sets-kind (suc (suc (suc zero))) l m = refl
+sets-kind (suc (suc (suc (suc zero)))) l m = refl
+sets-kind (suc (suc (suc (suc (suc n))))) (l, h) m = absurd (m (omega arith))
 
-  pub underived-reply : T (formed f i s) → 5 < s .rule → derives f (ruleNumbered (s .rule)) s ≡ false → Refused 9 ≡ stepReply (checkStep f i s)
-  unfolding stepReply need
-  underived-reply t l e = sym (derived-by t l false e)
+pub actions-kind : (n : ℕ) → n ≡ 5 → judgementKindOf n ≡ 2
+unfolding judgementKindOf ruleTable
+actions-kind n e = rw e refl
 
-  -- a known rule is not 0
-  pub rule-some : T (formed f i s) → 1 ≤ s .rule
-  unfolding formed formedUnder ruleAt
-  rule-some = go (s .rule)
-    where
-      go : (n : ℕ) → T (formedUnder f i s (ruleAt f n)) → 1 ≤ n
-      go zero t = absurd t
-      go (suc n) t = omega arith
+basic-kind : (n : ℕ) → (1 ≤ n) × (n ≤ 5) → (1 ≤ judgementKindOf n) × (judgementKindOf n ≤ 2)
+basic-kind n (l, h) =
+    elim (decLt n 5) [
+      | yes m ↦ (let q = sets-kind n (l, h) (λ e. omega arith) in (omega arith, omega arith))
+      | no m ↦ (let q = actions-kind n (omega arith) in (omega arith, omega arith))
+    ]
 
-  -- B5 is about two action sets of the file
-  pub action-entries : T (formed f i s) → s .rule ≡ 5 → (s .left < length (f .actionSets)) × (s .right < length (f .actionSets))
-  unfolding formed formedUnder ruleAt allRules statements wellFormed judgementKind premiseCount entriesFit
-  action-entries t e =
-      let w : T (wellFormed f i s 2 0) = subst (λ (n : ℕ). T (formedUnder f i s (ruleAt f n))) e t in
-      let a = s .left in let b = s .right in
-      let x : T (ltb a (length (f .actionSets)) && ltb b (length (f .actionSets))) =
-      and-right (eqb (s .kind) 2) _ (and-left (eqb (s .kind) 2 && (ltb a (length (f .actionSets)) && ltb b (length (f .actionSets)))) _ (and-left (eqb (s .kind) 2 && (ltb a (length (f .actionSets)) && ltb b (length (f .actionSets))) && every (λ p. ltb p i) (take 0 (s .premises))) (every (λ p. eqb p 0) (drop 0 (s .premises))) w)) in (
-        ltb→lt a (length (f .actionSets)) (and-left (ltb a (length (f .actionSets))) (ltb b (length (f .actionSets))) x),
-        ltb→lt b (length (f .actionSets)) (and-right (ltb a (length (f .actionSets))) (ltb b (length (f .actionSets))) x),
-      )
+-- a judgement of kind k is not one of the others
+pub unsaid : {X : Type 0} (j : Judgement) (k : ℕ) → kindSaid j ≡ k → OneOf (others k 0 4) (tagOf judgements.the-type j) → X
+unsaid j k e h = unused (other-kind j k h) (eq-eqb (kindSaid j) k e)
 
--- ---- from what the code read of step k, which is well formed
+pub actions-below : (f : File) {j : Judgement} {a b : ℕ} → T (entriesIn f j) → j ≡ ActionsWithin a b
+    → (a < length (f .actionSets)) × (b < length (f .actionSets))
+unfolding entriesIn
+actions-below f {j} {a} {b} t e =
+    let n = length (f .actionSets) in
+    let both : T (ltb a n && ltb b n) = rw e at t in
+    (ltb→lt a n (and-left (ltb a n) (ltb b n) both), ltb→lt b n (and-right (ltb a n) (ltb b n) both))
 
-module _ (f : File) (k : ℕ) {w : Bool} {x : Fields} (fits : w ≡ true) (told : w ≡ formed f k (stepAt f k)) (e : x ≡ fieldsOf (stepAt f k)) where
-  passed : formed f k (stepAt f k) ≡ true
+two-entries : (k a b : ℕ) {j : ℕ} → kindSaid (judgementOf k a b) ≡ j → (1 ≤ j) × (j ≤ 2)
+    → (leftSaid (judgementOf k a b) ≡ a) × (rightSaid (judgementOf k a b) ≡ b)
+unfolding judgementOf kindSaid leftSaid rightSaid
+two-entries zero a b e (l, h) = absurd (omega arith)
+two-entries (suc zero) a b e h = (refl, refl)
+two-entries (suc (suc zero)) a b e h = (refl, refl)
+two-entries (suc (suc (suc k))) a b e (l, h) = absurd (omega arith)
+
+-- ---- from what the code found of step k, which is well formed
+
+module _ (bytes : List ℕ) (at : Places) (k : ℕ) (s : code.Step) (h : IsStep bytes at k s)
+    {w : Bool} (fits : w ≡ true) (told : w ≡ formed (decoded bytes) k (stepAt (decoded bytes) k)) where
+  passed : formed (decoded bytes) k (stepAt (decoded bytes) k) ≡ true
   passed = sym told ∙ fits
 
-  -- what `decide` asks for
-  pub statement-asked : {m : ℕ} → m ≡ length (f .actionSets) → x .rule ≤ 5
-      → ((1 ≤ x .rule) × (x .rule ≤ 5)) × (x .rule ≡ 5 → (x .left < m) × (x .right < m))
-  unfolding fieldsOf
-  statement-asked {m} q h =
-      let r : x .rule ≡ stepAt f k .rule = ap (λ (y : Fields). y .rule) e in
-      let a : x .left ≡ stepAt f k .left = ap (λ (y : Fields). y .left) e in
-      let b : x .right ≡ stepAt f k .right = ap (λ (y : Fields). y .right) e in
-      let l = rule-some f k (stepAt f k) (holds passed) in (
-        (omega arith, h),
-        (λ (five : x .rule ≡ 5).
-            let n = action-entries f k (stepAt f k) (holds passed) (sym r ∙ five) in
-            let n0 = n .0 in let n1 = n .1 in
-            (omega arith, omega arith)),
-      )
+  -- the rule is one of 1 to 28
+  pub rule-bounds : (1 ≤ s .rule) × (s .rule ≤ 28)
+  rule-bounds =
+      let x = stepAt (decoded bytes) k in
+      let r : s .rule ≡ x .rule = same-rule (decoded bytes) k x (h .value) in
+      let lo = rule-some (decoded bytes) k x (holds passed) in
+      let hi = rule-in-table (decoded bytes) k x (holds passed) in
+      (omega arith, omega arith)
 
-  pub statement-reply : {v : Verdict} {r : StepReply} → x .rule ≤ 5 → v ≡ verdictOf f (x .rule) (x .left) (x .right) → r ≡ verdictReply v → r ≡ stepReply (checkStep f k (stepAt f k))
-  unfolding fieldsOf
-  statement-reply h q g =
-      let r : x .rule ≡ stepAt f k .rule = ap (λ (y : Fields). y .rule) e in
-      let l = rule-some f k (stepAt f k) (holds passed) in
-      let h' : stepAt f k .rule ≤ 5 = omega arith in
-      g ∙ ap verdictReply (q ∙ ap (λ (y : Fields). verdictOf f (y .rule) (y .left) (y .right)) e) ∙ basic-reply f k (stepAt f k) l h' passed
+  -- what `basic` asks for
+  pub says : (kindSaid (s .judgement) ≡ judgementKindOf (s .rule)) × T (entriesIn (decoded bytes) (s .judgement))
+  says = formed-says (decoded bytes) k (stepAt (decoded bytes) k) (h .value) (holds passed) (rule-bounds .0) (rule-bounds .1)
 
-  -- what `derived` asks for
-  pub derivable : 5 < x .rule → Derivable f k
-  unfolding fieldsOf
-  derivable h =
-      let r : x .rule ≡ stepAt f k .rule = ap (λ (y : Fields). y .rule) e in
-      record { formed = holds passed; derivation = omega arith }
+  pub basic-told : {r : StepReply} → s .rule ≤ 5
+      → r ≡ verdictReply (verdictOf (decoded bytes) (s .rule) (leftSaid (s .judgement)) (rightSaid (s .judgement)))
+      → r ≡ stepReply (checkStep (decoded bytes) k (stepAt (decoded bytes) k))
+  unfolding stepOf
+  basic-told five q =
+      let f = decoded bytes in
+      let x = stepAt f k in
+      let r : s .rule ≡ x .rule = same-rule f k x (h .value) in
+      let lo = rule-bounds .0 in
+      let e : s .judgement ≡ judgementOf (x .kind) (x .left) (x .right) = ap (λ (y : code.Step). y .judgement) (h .value) in
+      let two = two-entries (x .kind) (x .left) (x .right) (rw e at (says .0)) (basic-kind (s .rule) (lo, five)) in
+      q ∙ rw (e, two .0, two .1, r) (basic-reply f k x (omega arith) (omega arith) passed)
 
-  pub passed-reply : {b : Bool} → 5 < x .rule → b ≡ derives f (ruleNumbered (stepAt f k .rule)) (stepAt f k) → b ≡ true → Passed ≡ stepReply (checkStep f k (stepAt f k))
-  passed-reply h q t = derived-reply f k (stepAt f k) (holds passed) (derivable h .derivation) (sym q ∙ t)
-
-  pub refused-reply : {b : Bool} → 5 < x .rule → b ≡ derives f (ruleNumbered (stepAt f k .rule)) (stepAt f k) → b ≡ false → Refused 9 ≡ stepReply (checkStep f k (stepAt f k))
-  refused-reply h q t = underived-reply f k (stepAt f k) (holds passed) (derivable h .derivation) (sym q ∙ t)
+  pub derived-told : {r : StepReply} → 5 < s .rule → r ≡ ruleReply (decoded bytes) s
+      → r ≡ stepReply (checkStep (decoded bytes) k (stepAt (decoded bytes) k))
+  unfolding stepOf
+  derived-told more q =
+      let f = decoded bytes in
+      let x = stepAt f k in
+      let r : s .rule ≡ x .rule = same-rule f k x (h .value) in
+      q ∙ rw (h .value) (derived-reply f k x (holds passed) (omega arith) (three-premises bytes at k s h))

@@ -11,22 +11,25 @@ use lib.Dec.{T, ltb, eqb, eqb→eq}
 use lib.ListN.{length, getD, getElem?, take, drop}
 use borrow.Author.Tests.{ltb-true, ltb-false}
 use Rattle.task.specs.Reach.{every}
-use Rattle.task.proofs.Tests.{is-true}
+use Rattle.task.proofs.Tests.{is-true, holds}
 use Rattle.meaning.specs.Result.{Result, refuse, found, _>>=_, need, known}
 use Rattle.meaning.specs.File.{Step, File}
 use Rattle.meaning.specs.Statements.{statements}
 use Rattle.meaning.specs.Rules.{Rule, _⊢_, rules, patternKind, dead, O}
 use Rattle.meaning.specs.Match.{Letters, _then_, noLetters, matchStep, matchPremises}
-use Rattle.meaning.specs.Step.{Check, derivation, judgementKind, premiseCount, allRules, ruleAt, entriesFit, wellFormed, checkBy, checkStep}
-use Rattle.numbers.specs.Numbers.{ruleTable, premisesOf, judgementOf}
+use Rattle.meaning.specs.Step.{Check, derivation, judgementKind, premiseCount, allRules, ruleAt, entriesFit, wellFormed, checkBy}
+use Rattle.meaning.specs.Step.{checkStep}
+use Rattle.numbers.specs.Numbers.{ruleTable, premisesOf, judgementKindOf}
+use Rattle.numbers.proofs.Packed.{kind-bound}
 use Rattle.rules.specs.Derives.{isSome, derives, ruleNumbered}
 use Rattle.derivation.specs.Formed.{formedUnder, formed}
-use Rattle.numbers.specs.declared.Rule as code
+use Rattle.numbers.specs.declared.RuleNumber.{RuleNumber}
 
 -- ---- the rule with a number
 
 -- what stands at an index of a list, and what a function makes of it
-at-index : {A B : Type 0} (g : A → B) (xs : List A) (k : ℕ) (d : B) → k < length xs → (x : A) × (getElem? xs k ≡ some x) × (g x ≡ getD (map g xs) k d)
+at-index : {A B : Type 0} (g : A → B) (xs : List A) (k : ℕ) (d : B) → k < length xs
+    → (x : A) × (getElem? xs k ≡ some x) × (g x ≡ getD (map g xs) k d)
 at-index g [] k d l = absurd (not-suc-le-zero l)
 at-index g (x ∷ xs) zero d l = (x, refl, refl)
 at-index g (x ∷ xs) (suc k) d l = at-index g xs k d (le-of-suc-le-suc l)
@@ -37,7 +40,7 @@ past-index (x ∷ xs) zero l = absurd (not-suc-le-zero l)
 past-index (x ∷ xs) (suc k) l = past-index xs k (le-of-suc-le-suc l)
 
 -- what a rule carries
-abbrev carried : Check → code.Rule
+abbrev carried : Check → RuleNumber
 carried c = (premiseCount c, judgementKind c)
 
 -- rule n is known, with its premise count and its judgement kind
@@ -45,7 +48,7 @@ pub record Numbered (f : File) (n : ℕ) : Type 0 where
   pub rule : Check
   pub numbered : ruleAt f n ≡ some rule
   pub premises : premiseCount rule ≡ premisesOf n
-  pub judgement : judgementKind rule ≡ judgementOf n
+  pub judgement : judgementKind rule ≡ judgementKindOf n
 
 -- the table of numbers is that of the rules: one computed test over all of them
 table-right : (f : File) → ruleTable ≡ (0, 0) ∷ map carried (allRules f)
@@ -57,11 +60,12 @@ unfolding allRules statements rules
 count f = refl
 
 numbered : (f : File) (n : ℕ) → n < 28 → Numbered f (suc n)
-unfolding ruleAt premisesOf judgementOf
+unfolding ruleAt premisesOf judgementKindOf
 numbered f n l =
     let x = at-index carried (allRules f) n (0, 0) (rw (count f) l) in
-    let e : carried (x .0) ≡ getD ruleTable (suc n) (0, 0) = x .2 ∙ ap (λ (t : List code.Rule). getD t (suc n) (0, 0)) (sym (table-right f)) in
-    record { rule = x .0; numbered = x .1; premises = ap (λ (r : code.Rule). r .0) e; judgement = ap (λ (r : code.Rule). r .1) e }
+    let e : carried (x .0) ≡ getD ruleTable (suc n) (0, 0) =
+    x .2 ∙ ap (λ (t : List RuleNumber). getD t (suc n) (0, 0)) (sym (table-right f)) in
+    record { rule = x .0; numbered = x .1; premises = ap (λ (r : RuleNumber). r .0) e; judgement = ap (λ (r : RuleNumber). r .1) e }
 
 -- the numbers 1 to 28 are rules' numbers
 pub rule-known : (f : File) (n : ℕ) → 1 ≤ n → n ≤ 28 → Numbered f n
@@ -86,7 +90,8 @@ pub rule-derivation : (f : File) (n : ℕ) → 5 < n → n ≤ 28 → ruleAt f n
 unfolding ruleAt allRules statements ruleNumbered rules
 rule-derivation f n lo hi =
     let m : n ≡ suc (suc (suc (suc (suc (suc (n - 6)))))) = omega arith in
-    subst (λ (k : ℕ). ruleAt f k ≡ some (derivation (ruleNumbered n))) (sym m) (mapped derivation rules (n - 6) ([] ⊢ dead O) (omega arith))
+    subst (λ (k : ℕ). ruleAt f k ≡ some (derivation (ruleNumbered n))) (sym m)
+    (mapped derivation rules (n - 6) ([] ⊢ dead O) (omega arith))
 
 -- the table's premise count of a derivation
 pub derivation-premises : (f : File) (n : ℕ) → 5 < n → n ≤ 28 → premisesOf n ≡ premiseCount (derivation (ruleNumbered n))
@@ -112,7 +117,9 @@ module _ (f : File) (i : ℕ) (s : Step) where
   unfolding formed formedUnder checkStep known _>>=_ need
   step-unformed h = go (ruleAt f (s .rule)) h
     where
-      go : (o : Option Check) → formedUnder f i s o ≡ false → (known o 8 i >>= (λ r. need (wellFormed f i s (judgementKind r) (premiseCount r)) 8 i >>= (λ _. checkBy f i s r))) ≡ refuse 8 i
+      go : (o : Option Check) → formedUnder f i s o ≡ false
+          → (known o 8 i >>= (λ r. need (wellFormed f i s (judgementKind r) (premiseCount r)) 8 i >>= (λ _. checkBy f i s r)))
+          ≡ refuse 8 i
       go none q = refl
       go (some r) q = rw q
 
@@ -125,7 +132,9 @@ module _ (f : File) (i : ℕ) (s : Step) where
   unfolding checkBy derives _>>=_ known isSome _then_ need
   check-derivation (ps ⊢ c) = go (matchStep f c s noLetters)
     where
-      go : (o : Option Letters) → _≡_ {A = Result (Unit {0})} (known o 9 i >>= (λ σ. known (matchPremises f ps (s .premises) σ) 9 i >>= (λ _. found tt))) (need (isSome (o then matchPremises f ps (s .premises))) 9 i)
+      go : (o : Option Letters)
+          → _≡_ {A = Result (Unit {0})} (known o 9 i >>= (λ σ. known (matchPremises f ps (s .premises) σ) 9 i >>= (λ _. found tt)))
+          (need (isSome (o then matchPremises f ps (s .premises))) 9 i)
       go none = refl
       go (some σ) = known-need (matchPremises f ps (s .premises) σ) 9 i
 
@@ -141,11 +150,37 @@ module _ (f : File) (i : ℕ) (s : Step) where
           let z : s .rule ≡ suc (s .rule - 1) = omega arith in
           absurd (subst (λ (o : Option Check). T (formedUnder f i s o)) (ap (ruleAt f) z ∙ rule-past f (s .rule - 1) (omega arith)) h)
 
+  -- a known rule is not 0
+  pub rule-some : T (formed f i s) → 1 ≤ s .rule
+  unfolding formed formedUnder ruleAt
+  rule-some = go (s .rule)
+    where
+      go : (n : ℕ) → T (formedUnder f i s (ruleAt f n)) → 1 ≤ n
+      go zero t = absurd t
+      go (suc n) t = omega arith
+
   kind-fits : (j k : ℕ) → T (wellFormed f i s j k) → s .kind ≡ j
   unfolding wellFormed
   kind-fits j k w =
       eqb→eq (s .kind) j
-      (first-of (eqb (s .kind) j) (entriesFit f j (s .left) (s .right)) (every (λ p. ltb p i) (take k (s .premises))) (every (λ p. eqb p 0) (drop k (s .premises))) w)
+      (first-of (eqb (s .kind) j) (entriesFit f j (s .left) (s .right)) (every (λ p. ltb p i) (take k (s .premises)))
+      (every (λ p. eqb p 0) (drop k (s .premises))) w)
+
+  -- a step that passed is of one of the four judgement kinds
+  pub passed-kind : checkStep f i s ≡ found tt → s .kind < 4
+  unfolding formed formedUnder
+  passed-kind p = go (formed f i s) refl
+    where
+      go : (b : Bool) → formed f i s ≡ b → s .kind < 4
+      go false e = let z : refuse 8 i ≡ found tt = sym (step-unformed e) ∙ p in let y : _≡_ {A = ℕ} 0 1 = cc in absurd (omega arith)
+      go true e =
+          let t = holds e in
+          let n = rule-known f (s .rule) (rule-some t) (rule-in-table t) in
+          let k : s .kind ≡ judgementKind (n .rule) =
+          kind-fits _ _ (subst (λ (o : Option Check). T (formedUnder f i s o)) (n .numbered) t) in
+          let l = kind-bound (s .rule) in
+          let j = n .judgement in
+          omega arith
 
   pub kind-concluded : T (formed f i s) → 5 < s .rule → s .kind ≡ judgementKind (derivation (ruleNumbered (s .rule)))
   unfolding formed formedUnder

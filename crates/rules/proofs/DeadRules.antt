@@ -7,7 +7,7 @@ use mathlib.Core.List.{[], _∷_}
 use lib.Dec.{eqb}
 use Rattle.certificate.specs.declared.Judgement.the-variants.{Dead, Within, Unsolvable}
 use Rattle.meaning.specs.File.{complement, File, stateSetAt, first, second}
-use Rattle.patterns.specs.Tests.{ofSort, naming, namingBoth, namingGoal, namingComplementGoal, namingAll}
+use Rattle.patterns.specs.Tests.{ofSort, names, namesBoth, namesGoal, namesComplementGoal, namesAll}
 use Rattle.rules.specs.Derives.{ruleNumbered, follows}
 use Rattle.rules.proofs.RuleLaws.{eqb-comm, chain, opened}
 
@@ -18,30 +18,35 @@ module _ (f : File) where
   ed e = simp chain
 
   -- 7 UD: S dead, U dead; S+U dead
-  pub ud : (e s u : ℕ) → namingBoth f 8 e s u ≡ follows f (ruleNumbered 7) (Dead e) (Dead s ∷ Dead u ∷ [])
+  pub ud : (e s u : ℕ) → namesBoth f 8 e s u ≡ follows f (ruleNumbered 7) (Dead e) (Dead s ∷ Dead u ∷ [])
   unfolding opened
   ud e s u = simp (eqb-comm s (first (stateSetAt f e)), eqb-comm u (second (stateSetAt f e)), chain)
 
   -- 9 PG: S[T]<S+U, U dead, S&G dead; S dead
-  pub pg : (e l r u m : ℕ) → (namingAll f 9 l e && namingBoth f 8 r e u && namingGoal f m e) ≡ follows f (ruleNumbered 9) (Dead e) (Within l r ∷ Dead u ∷ Dead m ∷ [])
+  pub pg : (e l r u m : ℕ)
+      → (namesAll f 9 l e && namesBoth f 8 r e u && namesGoal f m e)
+      ≡ follows f (ruleNumbered 9) (Dead e) (Within l r ∷ Dead u ∷ Dead m ∷ [])
   unfolding opened
   pg e l r u m = simp (eqb-comm u (second (stateSetAt f r)), chain)
 
   -- 10 PI: S[T]<S+U, U dead, I<S; ~S dead
   pub pi : (e l r u i m s : ℕ) → stateSetAt f e ≡ complement s
-      → (namingAll f 9 l s && namingBoth f 8 r s u && ofSort f 1 i && eqb m s) ≡ follows f (ruleNumbered 10) (Dead e) (Within l r ∷ Dead u ∷ Within i m ∷ [])
+      → (namesAll f 9 l s && namesBoth f 8 r s u && (ofSort f 1 i && eqb m s))
+      ≡ follows f (ruleNumbered 10) (Dead e) (Within l r ∷ Dead u ∷ Within i m ∷ [])
   unfolding opened
   pi e l r u i m s h = simp (h, eqb-comm u (second (stateSetAt f r)), chain)
 
   -- 11 RG: [T]S<S+U, U dead, ~S&G dead; ~S dead
   pub rg : (e l r u m s : ℕ) → stateSetAt f e ≡ complement s
-      → (namingAll f 10 l s && namingBoth f 8 r s u && namingComplementGoal f m s) ≡ follows f (ruleNumbered 11) (Dead e) (Within l r ∷ Dead u ∷ Dead m ∷ [])
+      → (namesAll f 10 l s && namesBoth f 8 r s u && namesComplementGoal f m s)
+      ≡ follows f (ruleNumbered 11) (Dead e) (Within l r ∷ Dead u ∷ Dead m ∷ [])
   unfolding opened
   rg e l r u m s h = simp (h, eqb-comm u (second (stateSetAt f r)), chain)
 
   -- 12 RI: [T]S<S+U, U dead, I<~S; S dead
   pub ri : (e l r u i m : ℕ)
-      → (namingAll f 10 l e && namingBoth f 8 r e u && ofSort f 1 i && naming f 6 m e) ≡ follows f (ruleNumbered 12) (Dead e) (Within l r ∷ Dead u ∷ Within i m ∷ [])
+      → (namesAll f 10 l e && namesBoth f 8 r e u && (ofSort f 1 i && names f 6 m e))
+      ≡ follows f (ruleNumbered 12) (Dead e) (Within l r ∷ Dead u ∷ Within i m ∷ [])
   unfolding opened
   ri e l r u i m = simp (eqb-comm u (second (stateSetAt f r)), chain)
 

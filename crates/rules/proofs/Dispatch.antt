@@ -3,18 +3,20 @@
 use mathlib.Core.Path.{_≡_, refl, sym, ap, _∙_}
 use Prim.Native.Nat.{ℕ, suc, _-_, _≤_}
 use native.Mathlib.Omega.{arith}
-use mathlib.Core.Bool.{Bool, true}
+use mathlib.Core.Bool.{true}
 use mathlib.Core.List.{List, [], _∷_}
 use lib.Dec.{ltb}
 use lib.ListN.{length}
 use borrow.Author.Tests.{lt-ltb}
+use Rattle.certificate.specs.declared.StepReply.{StepReply}
 use Rattle.certificate.specs.declared.Judgement.{Judgement}
 use Rattle.meaning.specs.File.{File}
 use Rattle.certificate.proofs.TableLaws.{NoneOf, beyond}
 use Rattle.meaning.specs.Rules.{Pattern, Rule, _⊢_}
 use Rattle.meaning.specs.Match.{Letters, noLetters, matchStep}
 use Rattle.meaning.specs.Step.{derivation, premiseCount}
-use Rattle.rules.specs.Derives.{isSome, ruleNumbered, saying, matchSaid, follows}
+use Rattle.patterns.specs.Matched.{matched}
+use Rattle.rules.specs.Derives.{isSome, ruleNumbered, saying, matchSaid, follows, byRule}
 use Rattle.rules.proofs.Saying.{then-same}
 
 -- the judgements are the same as far as there are patterns
@@ -55,16 +57,17 @@ module _ (f : File) where
       ap isSome (then-same _ _ _ _ (ap (λ (x : Judgement). matchStep f c (saying x) noLetters) e) (λ τ. alike-said ps js ks τ h))
 
   -- premises that a rule does not have may be anything
-  pub read-premises : (r : Rule) {n : ℕ} (j : Judgement) {p p′ q q′ o o′ : Judgement} → n ≡ premiseCount (derivation r) → (ltb 0 n ≡ true → p ≡ p′)
+  pub read-premises : (r : Rule) {n : ℕ} (j : Judgement) {p p′ q q′ o o′ : Judgement} → n ≡ premiseCount (derivation r)
+      → (ltb 0 n ≡ true → p ≡ p′)
       → (ltb 1 n ≡ true → q ≡ q′) → (ltb 2 n ≡ true → o ≡ o′) → follows f r j (p ∷ q ∷ o ∷ []) ≡ follows f r j (p′ ∷ q′ ∷ o′ ∷ [])
   unfolding premiseCount
   read-premises (ps ⊢ c) j e h k l =
       follows-alike (ps ⊢ c) _ _ refl (alike ps (λ t. h (ap (ltb 0) e ∙ t)) (λ t. k (ap (ltb 1) e ∙ t)) (λ t. l (ap (ltb 2) e ∙ t)))
 
   -- rule n's arm: what was found of the judgements taken apart holds of them whole, and of more than the rule has premises
-  pub arm : (n : ℕ) {rule : ℕ} {j j′ : Judgement} (js ks : List Judgement) {b : Bool} → rule ≡ n → b ≡ follows f (ruleNumbered n) j′ ks → j ≡ j′
-      → AlikeFor (ruleNumbered n) js ks → b ≡ follows f (ruleNumbered rule) j js
-  arm n js ks e q h t = rw e (q ∙ sym (follows-alike (ruleNumbered n) js ks h t))
+  pub arm : (n : ℕ) {rule : ℕ} {j j′ : Judgement} (js ks : List Judgement) {b : StepReply} → rule ≡ n → b ≡ byRule f n j′ ks → j ≡ j′
+      → AlikeFor (ruleNumbered n) js ks → b ≡ byRule f rule j js
+  arm n js ks e q h t = rw e (q ∙ ap matched (sym (follows-alike (ruleNumbered n) js ks h t)))
 
 -- the arm that is left over
 pub no-arm : {X : Type 0} (from last k : ℕ) → (from ≤ k) × (k ≤ last) → NoneOf from (suc last - from) k → X

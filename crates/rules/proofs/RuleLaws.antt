@@ -1,4 +1,5 @@
--- How a rule's match computes: a chain of tests, one after the other. A judgement of another kind matches nothing, also where only a range of the rule's number is known.
+-- How a rule's match computes: a chain of tests, one after the other. A judgement of another kind matches nothing, also where only
+-- a range of the rule's number is known.
 -- Assumes nothing.
 use mathlib.Core.Path.{_≡_, refl, sym}
 use Prim.Native.Nat.{ℕ, zero, suc, _+_, _-_, _≤_}
@@ -12,15 +13,17 @@ use lib.ListN.{getD}
 use denote.Enum.Declared.{tagOf}
 use types.Run.{OneOf}
 use Rattle.task.proofs.Tests.{both-ways, same, or-cases, each, each-at}
+use Rattle.certificate.specs.declared.StepReply.the-variants.{Refused}
 use Rattle.certificate.specs.declared.Judgement.{Judgement}
 use Rattle.certificate.specs.declared.Judgement.the-variants.{Dead, Within, ActionsWithin, Unsolvable}
 use Rattle.meaning.specs.File.{File, actionKind, basicKind, stateKind, first, second, firstAction, secondAction}
 use Rattle.certificate.proofs.Judgement as judgements
 use Rattle.meaning.specs.Rules.{Rule, _⊢_, Pattern, rules, patternKind}
-use Rattle.meaning.specs.Match.{Letters, noLetters, _then_, given, withLetter, standsFor, ofKind, ofActionKind, matchᴬ, match, matchEntries, matchStep}
-use Rattle.patterns.specs.Tests.{ofSort, naming, namingBoth, namingComplement, namingGoal, namingComplementGoal, namingAll}
-use Rattle.rules.specs.Derives.{isSome, ruleNumbered, kindSaid, leftSaid, rightSaid, saying, matchSaid, follows}
-use Rattle.patterns.proofs.Views.{others, unlike}
+use Rattle.meaning.specs.Match.{Letters, noLetters, _then_, given, withLetter, standsFor}
+use Rattle.meaning.specs.Match.{ofKind, ofActionKind, matchᴬ, match, matchEntries, matchStep}
+use Rattle.patterns.specs.Tests.{ofSort, names, namesBoth, namesComplement, namesGoal, namesComplementGoal, namesAll}
+use Rattle.rules.specs.Derives.{isSome, ruleNumbered, kindSaid, leftSaid, rightSaid, saying, matchSaid, follows, byRule}
+use Rattle.patterns.proofs.Views.{others, unlike, refused}
 
 -- ---- a chain of tests
 
@@ -74,6 +77,9 @@ tag-said (Within a b) = refl
 tag-said (ActionsWithin a b) = refl
 tag-said Unsolvable = refl
 
+pub other-kind : (j : Judgement) (k : ℕ) → OneOf (others k 0 4) (tagOf judgements.the-type j) → eqb (kindSaid j) k ≡ false
+other-kind j k h = unlike k 0 4 (kindSaid j) (rw (tag-said j) at h)
+
 -- a rule asks for kind k of its conclusion, i being 0, or of premise i, counted from 1
 abbrev asked : List Pattern → ℕ → ℕ → Bool
 asked [] i k = false
@@ -89,7 +95,8 @@ then-none none g h = refl
 then-none (some x) g h = h x
 
 module _ (f : File) (k : ℕ) where
-  kind-unmatched : (p : Pattern) (j : Judgement) (σ : Letters) → T (eqb (patternKind p) k) → eqb (kindSaid j) k ≡ false → matchStep f p (saying j) σ ≡ none
+  kind-unmatched : (p : Pattern) (j : Judgement) (σ : Letters) → T (eqb (patternKind p) k) → eqb (kindSaid j) k ≡ false
+      → matchStep f p (saying j) σ ≡ none
   unfolding matchStep saying given _then_
   kind-unmatched p j σ t h = rw (eqb→eq (patternKind p) k t, h)
 
@@ -112,8 +119,9 @@ module _ (f : File) (k : ℕ) where
 
 -- a step or premise of another judgement kind than the rule asks for
 pub other-said : (f : File) (n i k : ℕ) (j : Judgement) (js : List Judgement) → T (asks (ruleNumbered n) i k)
-    → OneOf (others k 0 4) (tagOf judgements.the-type (getD (j ∷ js) i Unsolvable)) → false ≡ follows f (ruleNumbered n) j js
-other-said f n i k j js t h = unmatched f k (ruleNumbered n) i j js t (unlike k 0 4 _ (rw (tag-said (getD (j ∷ js) i Unsolvable)) at h))
+    → OneOf (others k 0 4) (tagOf judgements.the-type (getD (j ∷ js) i Unsolvable)) → Refused 9 ≡ byRule f n j js
+other-said f n i k j js t h =
+    refused _ (unmatched f k (ruleNumbered n) i j js t (other-kind (getD (j ∷ js) i Unsolvable) k h))
 
 -- ---- a range of rules
 
@@ -124,13 +132,17 @@ ranged t from last k h (lo, hi) =
     rw e at (each-at (λ m. t (from + m)) (suc last - from) (k - from) h (omega arith))
 
 -- a step or premise of another judgement kind than each rule from `from` to `last` asks for
-pub other-among : (f : File) (from last i k : ℕ) {rule : ℕ} (j : Judgement) (js : List Judgement) → T (each (λ m. asks (ruleNumbered (from + m)) i k) (suc last - from))
-    → (from ≤ rule) × (rule ≤ last) → OneOf (others k 0 4) (tagOf judgements.the-type (getD (j ∷ js) i Unsolvable)) → false ≡ follows f (ruleNumbered rule) j js
+pub other-among : (f : File) (from last i k : ℕ) {rule : ℕ} (j : Judgement) (js : List Judgement)
+    → T (each (λ m. asks (ruleNumbered (from + m)) i k) (suc last - from))
+    → (from ≤ rule) × (rule ≤ last) → OneOf (others k 0 4) (tagOf judgements.the-type (getD (j ∷ js) i Unsolvable))
+    → Refused 9 ≡ byRule f rule j js
 other-among f from last i k {rule} j js t h = other-said f rule i k j js (ranged (λ m. asks (ruleNumbered m) i k) from last rule t h)
 
 -- the same of these rules without rule x
-pub other-but : (f : File) (from last x i k : ℕ) {rule : ℕ} (j : Judgement) (js : List Judgement) → T (each (λ m. eqb (from + m) x || asks (ruleNumbered (from + m)) i k) (suc last - from))
-    → (from ≤ rule) × (rule ≤ last) → (rule ≡ x → ⊥) → OneOf (others k 0 4) (tagOf judgements.the-type (getD (j ∷ js) i Unsolvable)) → false ≡ follows f (ruleNumbered rule) j js
+pub other-but : (f : File) (from last x i k : ℕ) {rule : ℕ} (j : Judgement) (js : List Judgement)
+    → T (each (λ m. eqb (from + m) x || asks (ruleNumbered (from + m)) i k) (suc last - from))
+    → (from ≤ rule) × (rule ≤ last) → (rule ≡ x → ⊥) → OneOf (others k 0 4) (tagOf judgements.the-type (getD (j ∷ js) i Unsolvable))
+    → Refused 9 ≡ byRule f rule j js
 other-but f from last x i k {rule} j js t h but =
     other-said f rule i k j js
     (elim (or-cases (eqb rule x) (asks (ruleNumbered rule) i k) (ranged (λ m. eqb m x || asks (ruleNumbered m) i k) from last rule t h)) [
@@ -145,5 +157,7 @@ listed = tt
 
 -- `unfolding opened` opens the rules, their matching and the tests
 unfoldable pub opened : Unit {0}
-unfolding actionKind basicKind stateKind first second firstAction secondAction rules patternKind noLetters _then_ given withLetter standsFor ofKind ofActionKind matchᴬ match matchEntries matchStep isSome ruleNumbered kindSaid leftSaid rightSaid saying matchSaid follows ofSort naming namingBoth namingComplement namingGoal namingComplementGoal namingAll
+unfolding actionKind basicKind stateKind first second firstAction secondAction rules patternKind noLetters _then_ given
+    withLetter standsFor ofKind ofActionKind matchᴬ match matchEntries matchStep isSome ruleNumbered kindSaid leftSaid rightSaid
+    saying matchSaid follows ofSort names namesBoth namesComplement namesGoal namesComplementGoal namesAll
 opened = tt

@@ -11,11 +11,11 @@ use lib.ListN.{getD}
 use Rattle.task.specs.Reach.{every}
 use Rattle.task.proofs.Tests.{and-left, and-right}
 use Rattle.meaning.specs.File.{Step, File, stepAt}
-use Rattle.certificate.specs.Views.{judgementOf}
+use Rattle.certificate.specs.Views.{judgementOf, judgementAt}
 use Rattle.meaning.specs.Rules.{Pattern, dead, _⊑_, _⊑ᴬ_, unsolvable, O, Rule, _⊢_, rules, patternKind}
 use Rattle.meaning.specs.Match.{Letters, noLetters, _then_, given, matchEntries, matchStep, matchPremises}
 use Rattle.meaning.specs.Step.{derivation, judgementKind}
-use Rattle.rules.specs.Derives.{isSome, ruleNumbered, kindSaid, leftSaid, rightSaid, saying, derives, judgementAt, matchSaid, follows}
+use Rattle.rules.specs.Derives.{isSome, ruleNumbered, kindSaid, leftSaid, rightSaid, saying, derives, matchSaid, follows}
 
 -- a pattern that no judgement kind above 3 matches, though such a kind is shown as unsolvable
 abbrev Fits : Pattern → ℕ → Type 0
@@ -82,7 +82,8 @@ module _ (f : File) where
   match-said (p ⊑ᴬ q) (suc (suc (suc k))) a b σ h = rw (eqb·suc-suc (suc (suc k)) 1, eqb·suc-suc (suc k) 0, eqb·suc-zero k)
   match-said unsolvable (suc (suc (suc k))) a b σ h = let e : k ≡ 0 = omega arith in rw e
 
-  step-said : (p : Pattern) (s : Step) (σ : Letters) → Fits p (s .kind) → matchStep f p s σ ≡ matchStep f p (saying (judgementOf (s .kind) (s .left) (s .right))) σ
+  step-said : (p : Pattern) (s : Step) (σ : Letters) → Fits p (s .kind)
+      → matchStep f p s σ ≡ matchStep f p (saying (judgementOf (s .kind) (s .left) (s .right))) σ
   unfolding matchStep
   step-said p s σ h = match-said p (s .kind) (s .left) (s .right) σ h
 
@@ -95,11 +96,14 @@ module _ (f : File) where
       then-same _ _ _ _ (step-said p (stepAt f k) σ (fits-plain p (stepAt f k .kind) (and-left (plain p) (every plain ps) h)))
       (λ τ. premises-said ps ks τ (and-right (plain p) (every plain ps) h))
 
-  derives-said : (r : Rule) (s : Step) → T (plainRule r) → s .kind ≡ judgementKind (derivation r) → derives f r s ≡ follows f r (judgementOf (s .kind) (s .left) (s .right)) (map (judgementAt f) (s .premises))
+  derives-said : (r : Rule) (s : Step) → T (plainRule r) → s .kind ≡ judgementKind (derivation r)
+      → derives f r s ≡ follows f r (judgementOf (s .kind) (s .left) (s .right)) (map (judgementAt f) (s .premises))
   unfolding derives follows judgementKind
-  derives-said (ps ⊢ c) s t e = ap isSome (then-same _ _ _ _ (step-said c s noLetters (fits-kind c (s .kind) e)) (λ τ. premises-said ps (s .premises) τ t))
+  derives-said (ps ⊢ c) s t e =
+      ap isSome (then-same _ _ _ _ (step-said c s noLetters (fits-kind c (s .kind) e)) (λ τ. premises-said ps (s .premises) τ t))
 
   -- a step of the kind that its rule concludes is derived where what it says follows
   pub derives-follows : (n : ℕ) (s : Step) → s .kind ≡ judgementKind (derivation (ruleNumbered n))
-      → derives f (ruleNumbered n) s ≡ follows f (ruleNumbered n) (judgementOf (s .kind) (s .left) (s .right)) (map (judgementAt f) (s .premises))
+      → derives f (ruleNumbered n) s
+      ≡ follows f (ruleNumbered n) (judgementOf (s .kind) (s .left) (s .right)) (map (judgementAt f) (s .premises))
   derives-follows n s e = derives-said (ruleNumbered n) s (numbered-plain n) e

@@ -5,12 +5,13 @@ use mathlib.Core.Bool.{Bool, true, false}
 use mathlib.Core.Option.{Option, none, some}
 use mathlib.Core.List.{List, [], _∷_}
 use lib.ListN.{getD}
+use Rattle.certificate.specs.declared.StepReply.{StepReply}
 use Rattle.certificate.specs.declared.Judgement.{Judgement}
 use Rattle.certificate.specs.declared.Judgement.the-variants.{Dead, Within, ActionsWithin, Unsolvable}
-use Rattle.meaning.specs.File.{Step, File, stepAt}
-use Rattle.certificate.specs.Views.{judgementOf}
+use Rattle.meaning.specs.File.{Step, File}
 use Rattle.meaning.specs.Rules.{Rule, _⊢_, Pattern, dead, O, rules}
 use Rattle.meaning.specs.Match.{Letters, noLetters, _then_, matchStep, matchPremises}
+use Rattle.patterns.specs.Matched.{matched}
 
 unfoldable pub isSome : {X : Type 0} → Option X → Bool
 isSome none = false
@@ -48,10 +49,6 @@ module _ (f : File) where
   unfoldable pub derives : Rule → Step → Bool
   derives (ps ⊢ c) s = isSome (matchStep f c s noLetters then matchPremises f ps (s .premises))
 
-  -- what step k says
-  unfoldable pub judgementAt : ℕ → Judgement
-  judgementAt k = judgementOf (stepAt f k .kind) (stepAt f k .left) (stepAt f k .right)
-
   unfoldable pub matchSaid : List Pattern → List Judgement → Letters → Option Letters
   matchSaid [] js σ = some σ
   matchSaid (p ∷ ps) [] σ = none
@@ -60,3 +57,7 @@ module _ (f : File) where
   -- a judgement follows from others by a rule
   unfoldable pub follows : Rule → Judgement → List Judgement → Bool
   follows (ps ⊢ c) j js = isSome (matchStep f c (saying j) noLetters then matchSaid ps js)
+
+  -- the reply to rule n's pattern, of what a step and its premises say
+  abbrev pub byRule : ℕ → Judgement → List Judgement → StepReply
+  byRule n j js = matched (follows (ruleNumbered n) j js)

@@ -9,16 +9,21 @@ use mathlib.Core.List.{List, [], _∷_}
 use lib.ListN.{length, drop, getD}
 use lib.Dec.{eqb}
 use borrow.Author.Tests.{ne-eqb}
+use denote.Enum.Declared.{tagOf}
+use types.Run.{OneOf, miss}
 use Rattle.certificate.specs.declared.Places.{Places}
-use Rattle.certificate.specs.declared.views.Fields.{Fields}
+use Rattle.certificate.specs.declared.Judgement.{Judgement}
+use Rattle.certificate.specs.declared.Judgement.the-variants.{Unsolvable}
+use Rattle.certificate.proofs.Judgement as judgements
+use Rattle.certificate.specs.declared.StepReply.{StepReply}
+use Rattle.certificate.specs.declared.StepReply.the-variants as step
 use Rattle.meaning.specs.Result.{Result, refuse, found, _>>=_, need, known}
 use Rattle.meaning.specs.File.{Step, File, stepAt}
 use Rattle.meaning.specs.Layout.{readFile}
-use Rattle.certificate.specs.Index.{fieldsOf}
-use Rattle.certificate.specs.Known.{Known, decoded}
-use Rattle.certificate.proofs.KnownLaws.{known-read, known-steps}
-use Rattle.derivation.specs.declared.reply.StepReply.{StepReply}
-use Rattle.derivation.specs.declared.reply.StepReply.the-variants as step
+use Rattle.certificate.specs.Views.{judgementOf, judgementAt}
+use Rattle.certificate.specs.Known.{Placed, decoded}
+use Rattle.certificate.proofs.KnownLaws.{read-file, placed-steps}
+use Rattle.derivation.proofs.StepLaws.{passed-kind}
 use Rattle.meaning.specs.Step.{Check, statement, derivation, ruleAt, checkBy, checkStep}
 use Rattle.meaning.specs.Rules.{_⊢_}
 use Rattle.derivation.specs.StepReply.{stepReply}
@@ -89,28 +94,58 @@ module _ (f : File) where
   unfolding Passing
   passing-start = refl
 
-  next : (k : ℕ) → k < length (f .steps) → Passing k → (checkStep f k (stepAt f k) >>= (λ _. checkSteps f (suc k) (drop (suc k) (f .steps)))) ≡ checkSteps f 0 (f .steps)
+  next : (k : ℕ) → k < length (f .steps) → Passing k
+      → (checkStep f k (stepAt f k) >>= (λ _. checkSteps f (suc k) (drop (suc k) (f .steps)))) ≡ checkSteps f 0 (f .steps)
   unfolding Passing checkSteps stepAt
   next k l h = sym (ap (checkSteps f k) (drop-cons (f .steps) k _ l)) ∙ h
 
-  pub step-passed : (k : ℕ) {r : StepReply} → k < length (f .steps) → Passing k → r ≡ step.Passed → r ≡ stepReply (checkStep f k (stepAt f k)) → Passing (k + 1)
-  unfolding Passing placed Own _>>=_
-  step-passed k l h t e =
-      let q : checkStep f k (stepAt f k) ≡ found tt = own-step f k (stepAt f k) ∙ ap (placed k) (sym e ∙ t) in
-      subst Passing (succ-is k) (sym (ap (λ (x : Result (Unit {0})). x >>= (λ _. checkSteps f (suc k) (drop (suc k) (f .steps)))) q) ∙ next k l h)
+  -- what the step before step k says, which passed
+  pub record Kept (k : ℕ) (said : Judgement) : Type 0 where
+    pub says : 0 < k → said ≡ judgementAt f (k - 1)
+    pub kind : 0 < k → stepAt f (k - 1) .kind < 4
 
-  pub step-refused : (k n : ℕ) {r : StepReply} → k < length (f .steps) → Passing k → r ≡ step.Refused n → r ≡ stepReply (checkStep f k (stepAt f k)) → Refused n k ≡ replyTo (checkFile f)
+  pub kept-none : (said : Judgement) → Kept 0 said
+  kept-none said = record { says = λ l. absurd (omega arith); kind = λ l. absurd (omega arith) }
+
+  step-found : (k : ℕ) {r : StepReply} → r ≡ step.Passed → r ≡ stepReply (checkStep f k (stepAt f k))
+      → checkStep f k (stepAt f k) ≡ found tt
+  unfolding placed Own
+  step-found k t e = own-step f k (stepAt f k) ∙ ap (placed k) (sym e ∙ t)
+
+  pub step-passed : (k : ℕ) {r : StepReply} → k < length (f .steps) → Passing k → r ≡ step.Passed
+      → r ≡ stepReply (checkStep f k (stepAt f k)) → Passing (k + 1)
+  unfolding Passing _>>=_
+  step-passed k l h t e =
+      subst Passing (succ-is k)
+      (sym (ap (λ (x : Result (Unit {0})). x >>= (λ _. checkSteps f (suc k) (drop (suc k) (f .steps)))) (step-found k t e)) ∙ next k l h)
+
+  pub step-kept : (k : ℕ) {r : StepReply} {said : Judgement} → r ≡ step.Passed → r ≡ stepReply (checkStep f k (stepAt f k))
+      → said ≡ judgementAt f k → Kept (k + 1) said
+  step-kept k t e q =
+      let z : k + 1 - 1 ≡ k = omega arith in
+      record { says = λ l. rw z q; kind = λ l. rw z (passed-kind f k (stepAt f k) (step-found k t e)) }
+
+  pub step-refused : (k n : ℕ) {r : StepReply} → k < length (f .steps) → Passing k → r ≡ step.Refused n
+      → r ≡ stepReply (checkStep f k (stepAt f k)) → Refused n k ≡ replyTo (checkFile f)
   unfolding placed Own _>>=_ checkFile replyTo
   step-refused k n l h t e =
       let q : checkStep f k (stepAt f k) ≡ refuse n k = own-step f k (stepAt f k) ∙ ap (placed k) (sym e ∙ t) in
-      let w : checkSteps f 0 (f .steps) ≡ refuse n k = sym (next k l h) ∙ ap (λ (x : Result (Unit {0})). x >>= (λ _. checkSteps f (suc k) (drop (suc k) (f .steps)))) q in
+      let w : checkSteps f 0 (f .steps) ≡ refuse n k =
+      sym (next k l h) ∙ ap (λ (x : Result (Unit {0})). x >>= (λ _. checkSteps f (suc k) (drop (suc k) (f .steps)))) q in
       rw w refl
 
-  pub steps-passed : (k n : ℕ) {r : Reply} → n ≡ length (f .steps) → n ≤ k → Passing k → r ≡ replyTo (need (eqb (stepAt f (n - 1) .kind) 3) 12 (n - 1)) → r ≡ replyTo (checkFile f)
+  -- the last of n steps passed: the reply is told from what it says
+  pub steps-passed : (k n : ℕ) {r : Reply} {said : Judgement} → n ≡ length (f .steps) → 0 < n → k ≤ n → n ≤ k → Passing k → Kept k said
+      → ((g : File) → said ≡ judgementAt g (n - 1) → stepAt g (n - 1) .kind < 4
+      → r ≡ replyTo (need (eqb (stepAt g (n - 1) .kind) 3) 12 (n - 1)))
+      → r ≡ replyTo (checkFile f)
   unfolding Passing checkSteps checkFile _>>=_
-  steps-passed k n m l h e =
+  steps-passed k n {said = said} m one most all h kept e =
       let w : checkSteps f 0 (f .steps) ≡ found tt = sym h ∙ ap (checkSteps f k) (drop-all (f .steps) k (omega (arith, m))) in
-      e ∙ ap (λ (c : ℕ). replyTo (need (eqb (stepAt f (c - 1) .kind) 3) 12 (c - 1))) m ∙ rw w refl
+      let z : k ≡ n = omega arith in
+      let last : Kept n said = subst (λ (i : ℕ). Kept i said) z kept in
+      e f (last .says one) (last .kind one)
+      ∙ ap (λ (c : ℕ). replyTo (need (eqb (stepAt f (c - 1) .kind) 3) 12 (c - 1))) m ∙ rw w refl
 
 -- ---- the reply to the bytes
 
@@ -124,19 +159,24 @@ unread-reply bytes r p h = rw h refl
 
 -- ---- the last step
 
-module _ (bytes : List ℕ) (at : Places) (index : List ℕ) (k : Known bytes at index) where
-  pub some-step : 0 < at .steps
-  some-step = let l = known-read bytes at index k .some-steps in let e = known-steps bytes at index k in omega (arith, l, e)
+pub some-step : (bytes : List ℕ) (at : Places) → Placed bytes at → 0 < at .steps
+some-step bytes at k =
+    let l = read-file bytes (k .read) .some-steps in let e = placed-steps bytes at k in omega (arith, l, e)
 
-module _ (f : File) (n : ℕ) {x : Fields} (e : x ≡ fieldsOf (stepAt f n)) where
-  kind-read : x .kind ≡ stepAt f n .kind
-  unfolding fieldsOf
-  kind-read = ap (λ (y : Fields). y .kind) e
+-- of the four kinds only the last is shown as "unsolvable"
+unsolvable-kind : (k a b : ℕ) → k < 4 → judgementOf k a b ≡ Unsolvable → k ≡ 3
+unfolding judgementOf
+unsolvable-kind zero a b l e = let y : _≡_ {A = ℕ} 0 1 = cc in absurd (omega arith)
+unsolvable-kind (suc zero) a b l e = let y : _≡_ {A = ℕ} 0 1 = cc in absurd (omega arith)
+unsolvable-kind (suc (suc zero)) a b l e = let y : _≡_ {A = ℕ} 0 1 = cc in absurd (omega arith)
+unsolvable-kind (suc (suc (suc k))) a b l e = omega arith
 
-  pub last-says : x .kind ≡ 3 → Accepted ≡ replyTo (need (eqb (stepAt f n .kind) 3) 12 n)
-  unfolding replyTo need
-  last-says h = rw (← kind-read, h) refl
+module _ (f : File) (n : ℕ) {said : Judgement} (e : said ≡ judgementAt f n) where
+  pub last-says : stepAt f n .kind < 4 → said ≡ Unsolvable → Accepted ≡ replyTo (need (eqb (stepAt f n .kind) 3) 12 n)
+  unfolding replyTo need judgementAt
+  last-says l h = rw (unsolvable-kind (stepAt f n .kind) (stepAt f n .left) (stepAt f n .right) l (sym e ∙ h)) refl
 
-  pub last-says-not : (x .kind ≡ 3 → ⊥) → Refused 12 n ≡ replyTo (need (eqb (stepAt f n .kind) 3) 12 n)
-  unfolding replyTo need
-  last-says-not h = rw (← kind-read, ne-eqb (x .kind) 3 h) refl
+  pub last-says-not : OneOf (0 ∷ 1 ∷ 2 ∷ []) (tagOf judgements.the-type said)
+      → Refused 12 n ≡ replyTo (need (eqb (stepAt f n .kind) 3) 12 n)
+  unfolding replyTo need judgementAt judgementOf
+  last-says-not h = rw (ne-eqb (stepAt f n .kind) 3 (λ q. miss (0 ∷ 1 ∷ 2 ∷ []) 3 tt (rw (e, q) at h))) refl

@@ -1,60 +1,61 @@
 // The checker of a whole file.
+use certificate::Index;
+use certificate::Judgement;
 use certificate::Outline;
 use certificate::Places;
-use certificate::known::fields;
-use certificate::views::index_file;
-use derivation::reply::StepReply;
+use certificate::StepReply;
+use certificate::lookup::step;
+use certificate::views::index_of;
 use derivation::reply::check_step;
 use layout::read_layout;
 use meaning::Reply;
 ghost use mathlib.Core.Path.{_≡_};
-ghost use Prim.Native.Nat.{_-_};
+ghost use Prim.Native.Nat.{_<_};
 ghost use lib.Dec.{eqb};
 ghost use Rattle.task.specs.Reach.{Safe};
 ghost use Rattle.meaning.specs.Result.{found, need};
 ghost use Rattle.meaning.specs.File.{File, stepAt};
 ghost use Rattle.meaning.specs.Layout.{readFile};
-ghost use Rattle.certificate.specs.Known.{Known, decoded};
+ghost use Rattle.certificate.specs.Views.{judgementAt};
+ghost use Rattle.certificate.specs.Known.{Placed, Known, decoded};
 ghost use Rattle.meaning.specs.declared.Reply.the-variants.{Accepted};
 ghost use Rattle.meaning.specs.Reply.{checkFile, replyTo, replyOf};
 
-// Whether the last step says "unsolvable".
-fn last_step(file: &[u8], at: Places, index: &[u16; 768]) -> Reply
-    requires { ⌜ Known (now file) at (now index) ⌝ }
-    ensures { λ r. ⌜ r ≡ replyTo (need (eqb (stepAt (decoded (now (file .entry))) (at .steps - 1) .kind) 3) 12 (at .steps - 1)) ⌝ }
+// The reply after all steps passed, from what the last one, step k, says.
+fn last_step(said: Judgement, k: u32) -> Reply
+    ensures { λ r. ⌜ ((f : File) → said ≡ judgementAt f k → stepAt f k .kind < 4 → r ≡ replyTo (need (eqb (stepAt f k .kind) 3) 12 k)) ⌝ }
 {
-    let last = at.steps - 1;
-    let x = fields(file, at, index, last);
-    if x.kind == 3 {
-        Reply::Accepted
-    } else {
-        Reply::Refused {
+    let Judgement::Unsolvable = said else {
+        return Reply::Refused {
             number: 12,
-            place: last as u32,
-        }
-    }
+            place: k,
+        };
+    };
+    Reply::Accepted
 }
 
 // The steps in turn, and then whether the last one says "unsolvable".
-fn check_steps(file: &[u8], at: Places, index: &[u16; 768]) -> Reply
-    requires { ⌜ Known (now file) at (now index) ⌝ }
+fn check_steps(file: &[u8], at: Places, index: &Index) -> Reply
+    requires { ⌜ Placed (now file) at ⌝ }
+    requires { ⌜ Known (now file) (now index) ⌝ }
     ensures { λ r. ⌜ r ≡ replyTo (checkFile (decoded (now (file .entry)))) ⌝ }
 {
     let count = at.steps;
+    let mut said = Judgement::Dead(0);
     let mut k = 0u16;
     while k < count {
-        match check_step(file, at, index, k) {
+        let s = step(file, at, k);
+        match check_step(file, at, index, k, s) {
             StepReply::Passed => {}
             StepReply::Refused(number) => {
-                return Reply::Refused {
-                    number,
-                    place: k as u32,
-                };
+                let place = k as u32;
+                return Reply::Refused { number, place };
             }
         }
+        said = s.judgement;
         k += 1;
     }
-    last_step(file, at, index)
+    last_step(said, count as u32 - 1)
 }
 
 // Whether a file's certificate shows that its task is safe.
@@ -66,8 +67,7 @@ pub fn check(file: &[u8]) -> Reply
     match read_layout(file) {
         Outline::Refused { number, place } => Reply::Refused { number, place },
         Outline::Lawful(at) => {
-            let mut index = [0u16; 768];
-            index_file(file, at, &mut index);
+            let index = index_of(file, at);
             check_steps(file, at, &index)
         }
     }

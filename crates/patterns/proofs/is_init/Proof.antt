@@ -1,13 +1,25 @@
--- `patterns::is_init` meets its contract: another case is another kind, and the wanted case names what the entry names.
+-- `patterns::is_init` meets its contract: another case is another kind; the wanted one tells what the entry names.
 -- Assumes nothing.
 use borrow.Author.Needs.{needs}
-use Rattle.patterns.proofs.Views.{taken, other, tests}
+use Rattle.patterns.proofs.Views.{taken-basic, other, other-basic, passed, refused, tests}
 use Rattle.patterns.proofs.is_init.Statement.{statement}
 use Rattle.patterns.proofs.is_init.Tie as tie
 
-pub is-init-spec : {M : Type 1} → statement M
+returns : tie.Need-returns
 unfolding tests
-is-init-spec =
-    tie.close (tie.spec (λ c κs. search needs) (λ c. search needs)
-    (λ c. rw (other _ _ (c .before .state-set .ensures) 1 (c .match .keys2)))
-    (λ c. rw (taken _ _ (c .before .before .state-set .ensures) (c .enum-told .given .1))))
+returns c = refused _ (rw (other _ _ (c .before .state-set .ensures) 1 (c .match .keys2)))
+
+returns-2 : tie.Need-returns-2
+unfolding tests
+returns-2 c =
+    let b = c .before .before in
+    refused _ (rw (other-basic _ _ (b .before .before .state-set .ensures) (b .b .given .1) 1 (c .match2 .keys2)))
+
+returns-3 : tie.Need-returns-3
+unfolding tests
+returns-3 c =
+    let b = c .before .before .before in
+    passed _ (rw (taken-basic _ _ (b .before .before .state-set .ensures) (b .b .given .1) (c .enum-told .given .1)))
+
+pub is-init-spec : {M : Type 1} → statement M
+is-init-spec = tie.close (tie.spec (λ c κs. search needs) (λ c. search needs) returns (λ c. search needs) returns-2 returns-3)

@@ -1,13 +1,19 @@
--- `patterns::is_progression` meets its contract: another case is another kind, and the wanted case names what the entry names.
+-- `patterns::is_progression` meets its contract: another case is another kind; the wanted one tells what the entry names.
 -- Assumes nothing.
 use borrow.Author.Needs.{needs}
-use Rattle.patterns.proofs.Views.{taken, other, tests}
+use Rattle.patterns.proofs.Views.{taken, other, refused, tests}
 use Rattle.patterns.proofs.is_progression.Statement.{statement}
 use Rattle.patterns.proofs.is_progression.Tie as tie
 
-pub is-progression-spec : {M : Type 1} → statement M
+returns : tie.Need-returns
 unfolding tests
-is-progression-spec =
-    tie.close (tie.spec (λ c κs. search needs) (λ c. search needs)
-    (λ c. rw (other _ _ (c .before .state-set .ensures) 9 (c .match .keys2)))
-    (λ c. rw (taken _ _ (c .before .before .before .state-set .ensures) (c .before .a .given .1))))
+returns c = refused _ (rw (other _ _ (c .before .state-set .ensures) 9 (c .match .keys2)))
+
+returns-2 : tie.Need-returns-2
+unfolding tests
+returns-2 c =
+    let a = c .before .before in
+    rw (taken _ _ (a .before .before .state-set .ensures) (a .a .given .1)) (c .matched .ensures)
+
+pub is-progression-spec : {M : Type 1} → statement M
+is-progression-spec = tie.close (tie.spec (λ c κs. search needs) (λ c. search needs) returns (λ c κs. search needs) returns-2)

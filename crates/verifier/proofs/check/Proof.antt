@@ -4,15 +4,18 @@
 use mathlib.Core.Path.{sym, _∙_, refl}
 use borrow.Author.Needs.{needs}
 use Rattle.meaning.proofs.Judgements.{accepted-is-safe}
-use Rattle.certificate.proofs.OutlineKnown.{lawful-known, refused-read}
+use Rattle.certificate.proofs.OutlineKnown.{lawful-placed, refused-read}
 use Rattle.verifier.proofs.CheckLaws.{read-reply, unread-reply}
 use Rattle.verifier.proofs.check.Statement.{statement}
 use Rattle.verifier.proofs.check.Tie as tie
 
+index-of-requires : tie.Need-index-of-requires
+index-of-requires c κs = let a = c .before in lawful-placed _ (a .before .before .read-layout .ensures) _ (a .at .given .1)
+
 check-steps-requires : tie.Need-check-steps-requires
 check-steps-requires c κs =
-    let a = c .before .before .before .before in
-    lawful-known _ (a .before .before .read-layout .ensures) _ _ (a .at .given .1) (c .before .index-file .ensures)
+    let a = c .before .before .before in
+    (lawful-placed _ (a .before .before .read-layout .ensures) _ (a .at .given .1), c .before .index-of .ensures)
 
 returns : tie.Need-returns
 returns c =
@@ -21,19 +24,11 @@ returns c =
 
 returns-2 : tie.Need-returns-2
 returns-2 c =
-    let a = c .before .before .before .before .before in
-    let k = lawful-known _ (a .before .before .read-layout .ensures) _ _ (a .at .given .1) (c .before .before .index-file .ensures) in
-    let e = c .check-steps .ensures ∙ read-reply _ (k .read) in
+    let i = c .before .before in
+    let e = c .check-steps .ensures ∙ read-reply _ (i .index-of .ensures .read) in
     (e, (refl, λ y. accepted-is-safe _ (sym e ∙ y)))
 
 pub check-spec : {M : Type 1} → statement M
 check-spec =
-    tie.close
-    (tie.spec
-    (λ c κs. search needs)
-    (λ c. search needs)
-    (λ c. search needs)
-    (λ c κs. search needs)
-    check-steps-requires
-    returns
-    returns-2)
+    tie.close (tie.spec
+    (λ c κs. search needs) (λ c. search needs) (λ c. search needs) index-of-requires check-steps-requires returns returns-2)

@@ -8,4 +8,5 @@ use Rattle.derivation.proofs.reply.of_verdict.Tie as tie
 pub of-verdict-spec : {M : Type 1} → statement M
 unfolding verdictReply
 of-verdict-spec =
-    tie.close (tie.spec (λ c. search needs) (λ c. search needs) (λ c. search needs) (λ c. search needs) (λ c. search needs) (λ c. search needs))
+    tie.close (tie.spec (λ c. search needs) (λ c. search needs) (λ c. search needs) (λ c. search needs) (λ c. search needs)
+    (λ c. search needs))

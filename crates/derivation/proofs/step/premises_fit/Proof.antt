@@ -6,7 +6,10 @@ use Rattle.derivation.proofs.step.premises_fit.Statement.{statement}
 use Rattle.derivation.proofs.step.premises_fit.Tie as tie
 
 returns : tie.Need-returns
-returns c = let s = c .before .before .before in rw (c .before .before .place-fits .ensures, c .before .place-fits2 .ensures, c .place-fits3 .ensures) (places-fit (s .args .count) _ _ _ _)
+returns c =
+    let s = c .before .before .before in
+    let first = c .before .before in
+    rw (first .place-fits .ensures, c .before .place-fits2 .ensures, c .place-fits3 .ensures) (places-fit (s .args .count) _ _ _ _)
 
 pub premises-fit-spec : {M : Type 1} → statement M
 premises-fit-spec = tie.close (tie.spec (λ c κs. search needs) (λ c κs. search needs) (λ c κs. search needs) returns)

@@ -1,9 +1,15 @@
 -- `dead::sd` meets its contract: SD's tests in turn.
 -- Assumes nothing.
+use mathlib.Core.Path.{_∙_, ap}
+use borrow.Author.Needs.{needs}
+use Rattle.patterns.specs.Matched.{matched}
 use Rattle.rules.proofs.RuleLaws.{chain, opened}
 use Rattle.rules.proofs.dead.sd.Statement.{statement}
 use Rattle.rules.proofs.dead.sd.Tie as tie
 
-pub sd-spec : {M : Type 1} → statement M
+returns : tie.Need-returns
 unfolding opened
-sd-spec = tie.close (tie.spec (λ c. simp chain))
+returns c = λ f. c .matched .ensures ∙ ap matched (simp chain)
+
+pub sd-spec : {M : Type 1} → statement M
+sd-spec = tie.close (tie.spec (λ c κs. search needs) returns)

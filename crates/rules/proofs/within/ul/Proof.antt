@@ -1,14 +1,18 @@
 -- `within::ul` meets its contract: UL's tests in turn, and nothing matches an entry of another kind.
 -- Assumes nothing.
 use borrow.Author.Needs.{needs}
-use Rattle.rules.proofs.RuleLaws.{chain, opened}
-use Rattle.patterns.proofs.Views.{other, taken}
+use Rattle.rules.proofs.RuleLaws.{opened}
+use Rattle.rules.proofs.WithinRules.{ul}
+use Rattle.patterns.proofs.Views.{other, refused}
 use Rattle.rules.proofs.within.ul.Statement.{statement}
 use Rattle.rules.proofs.within.ul.Tie as tie
 
-pub ul-spec : {M : Type 1} → statement M
+returns : tie.Need-returns
 unfolding opened
-ul-spec =
-    tie.close (tie.spec (λ c κs. search needs) (λ c. search needs)
-    (λ c. rw (other _ _ (c .before .state-set .ensures) 8 (c .match .keys2)))
-    (λ c. simp (taken _ _ (c .before .before .before .state-set .ensures) (c .before .s .given .1), chain)))
+returns c = refused _ (rw (other _ _ (c .before .state-set .ensures) 8 (c .match .keys2)))
+
+returns-2 : tie.Need-returns-2
+returns-2 c = search (needs, ul)
+
+pub ul-spec : {M : Type 1} → statement M
+ul-spec = tie.close (tie.spec (λ c κs. search needs) (λ c. search needs) returns (λ c κs. search needs) returns-2)
