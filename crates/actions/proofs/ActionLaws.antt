@@ -29,7 +29,8 @@ below-more j i =
 pub first-none : Marks (0 ∷ 0 ∷ 0 ∷ 0 ∷ []) (λ j. ltb j 0)
 first-none j h = no-marks j ∙ sym (le-ltb j 0 (omega arith))
 
-pub first-more : (words next : List ℕ) (i : ℕ) → Marks words (λ j. ltb j i) → Marks next (λ j. marked words j || eqb j i) → Marks next (λ j. ltb j (i + 1))
+pub first-more : (words next : List ℕ) (i : ℕ) → Marks words (λ j. ltb j i) → Marks next (λ j. marked words j || eqb j i)
+    → Marks next (λ j. ltb j (i + 1))
 first-more words next i h k j l = k j l ∙ ap (λ (x : Bool). x || eqb j i) (h j l) ∙ below-more j i
 
 -- ---- listed numbers
@@ -41,11 +42,18 @@ some-more false true = refl
 some-more false false = refl
 
 eqb-sym : (x y : ℕ) → eqb x y ≡ eqb y x
-eqb-sym x y = elim (ℕ-discrete x y) [ yes q ↦ eq-eqb x y q ∙ sym (eq-eqb y x (sym q)) | no q ↦ ne-eqb x y q ∙ sym (ne-eqb y x (λ z. q (sym z))) ]
+eqb-sym x y =
+    elim (ℕ-discrete x y) [
+      | yes q ↦ eq-eqb x y q ∙ sym (eq-eqb y x (sym q))
+      | no q ↦ ne-eqb x y q ∙ sym (ne-eqb y x (λ z. q (sym z)))
+    ]
 
-listed-next : (bytes : List ℕ) (at i j : ℕ) → (listedIn bytes at i j || eqb (numberAt 2 bytes (at + 2 * i)) j) ≡ listedIn bytes at (i + 1) j
+listed-next : (bytes : List ℕ) (at i j : ℕ)
+    → (listedIn bytes at i j || eqb (numberAt 2 bytes (at + 2 * i)) j) ≡ listedIn bytes at (i + 1) j
 unfolding listedIn someBelow
-listed-next bytes at i j = rw (add-one i) (sym (some-more (someBelow i (λ k. eqb (numberAt 2 bytes (at + 2 * k)) j)) (eqb (numberAt 2 bytes (at + 2 * i)) j)))
+listed-next bytes at i j =
+    let here : ℕ → Bool = λ k. eqb (numberAt 2 bytes (at + 2 * k)) j in
+    rw (add-one i) (sym (some-more (someBelow i here) (here i)))
 
 module _ (bytes : List ℕ) (at : ℕ) (words : List ℕ) where
   -- the marks after the first i numbers of the list
@@ -56,7 +64,8 @@ module _ (bytes : List ℕ) (at : ℕ) (words : List ℕ) where
   unfolding listedIn someBelow
   listed-none j l = sym (or-false (marked words j))
 
-  pub listed-more : (i x : ℕ) (more next : List ℕ) → After i more → x ≡ numberAt 2 bytes (at + 2 * i) → Marks next (λ j. marked more j || eqb j x) → After (i + 1) next
+  pub listed-more : (i x : ℕ) (more next : List ℕ) → After i more → x ≡ numberAt 2 bytes (at + 2 * i)
+      → Marks next (λ j. marked more j || eqb j x) → After (i + 1) next
   listed-more i x more next h e k j l =
       k j l ∙ ap₂ (λ (p q : Bool). p || q) (h j l) (eqb-sym j x ∙ ap (λ (y : ℕ). eqb y j) e)
       ∙ or-assoc (marked words j) (listedIn bytes at i j) (eqb (numberAt 2 bytes (at + 2 * i)) j)
@@ -64,5 +73,6 @@ module _ (bytes : List ℕ) (at : ℕ) (words : List ℕ) where
 
   pub listed-large : (i x : ℕ) (more : List ℕ) → After i more → x ≡ numberAt 2 bytes (at + 2 * i) → 256 ≤ x → After (i + 1) more
   listed-large i x more h e m j l =
+      let other : false ≡ eqb (numberAt 2 bytes (at + 2 * i)) j = sym (ne-eqb (numberAt 2 bytes (at + 2 * i)) j (λ z. omega arith)) in
       h j l ∙ ap (λ (p : Bool). marked words j || p)
-      (sym (or-false (listedIn bytes at i j)) ∙ ap (λ (p : Bool). listedIn bytes at i j || p) (sym (ne-eqb (numberAt 2 bytes (at + 2 * i)) j (λ z. omega arith))) ∙ listed-next bytes at i j)
+      (sym (or-false (listedIn bytes at i j)) ∙ ap (λ (p : Bool). listedIn bytes at i j || p) other ∙ listed-next bytes at i j)

@@ -10,8 +10,7 @@ use lib.ListN.{length, getD}
 use lib.Dec.{T, ltb, ltb→lt, eqb→eq}
 use Rattle.task.specs.Task.{Task}
 use Rattle.task.specs.Reach.{member}
-use Rattle.task.proofs.Tests.{member-first, member-rest, member-none, member-cases, or-cases, implied, same}
-use Rattle.certificate.specs.declared.Places.{Places}
+use Rattle.task.proofs.Tests.{both-ways, member-first, member-rest, member-none, member-cases, or-cases, implied, same}
 use Rattle.certificate.specs.declared.Span.{Span}
 use Rattle.certificate.specs.declared.ActionEntry.{ActionEntry}
 use Rattle.certificate.specs.declared.ActionEntry.the-variants.{All, Listed, Either}
@@ -19,17 +18,17 @@ use Rattle.meaning.specs.File.{ActionSet, all, listed, either, File, actionSetA
 use Rattle.certificate.specs.Views.{viewOfActions}
 use Rattle.bytes.specs.Numbers.{numberAt}
 use Rattle.meaning.specs.Writing.{AllFrom, FitsActionSet}
-use Rattle.certificate.specs.Known.{Known, decoded, actionPlace}
+use Rattle.certificate.specs.Index.{actionPlace}
+use Rattle.certificate.specs.Known.{Known, decoded}
 use Rattle.certificate.proofs.ItemLaws.{Items}
 use Rattle.meaning.proofs.Order.{EarlierActions, action-set-fits}
 use Rattle.certificate.proofs.SeenLaws.{ActionsSeen, actions-seen}
-use Rattle.certificate.proofs.KnownLaws.{known-read, known-ordered, known-fit, known-actions, known-action-set}
+use Rattle.certificate.proofs.KnownLaws.{read-file, read-ordered, known-action-set}
 use Rattle.meaning.specs.Sets.{allBelow, actionNode, inActions, actionsWithin}
 use Rattle.actions.specs.Marks.{marked, Marks, listedIn}
 use Rattle.meaning.proofs.Below.{all-at, all-of, some-at, some-of}
 use Rattle.meaning.proofs.Nodes.{in-actions}
 use Rattle.meaning.proofs.Sets.{implies-of}
-use Rattle.actions.proofs.MarkLaws.{same-tests}
 
 -- ---- listed numbers, by index and by place
 
@@ -46,14 +45,16 @@ index-member [] i l = absurd (omega arith)
 index-member (x ∷ xs) zero l = member-first x x xs refl
 index-member (x ∷ xs) (suc i) l = member-rest (getD xs i 0) x xs (index-member xs i (omega arith))
 
-listed-member : (bytes : List ℕ) (p : ℕ) (xs : List ℕ) → Items bytes 2 (numberAt 2 bytes) p xs → (j : ℕ) → member j xs ≡ listedIn bytes p (length xs) j
+listed-member : (bytes : List ℕ) (p : ℕ) (xs : List ℕ) → Items bytes 2 (numberAt 2 bytes) p xs → (j : ℕ)
+    → member j xs ≡ listedIn bytes p (length xs) j
 unfolding listedIn
 listed-member bytes p xs h j =
-    same-tests _ _
+    both-ways _ _
     (λ m. let w = member-index j xs m in some-of (length xs) _ (w .0) (w .1) (same (h .here 0 (w .0) (w .1) ∙ w .2)))
     (λ s.
     let w = some-at (length xs) _ s in
-    subst (λ (x : ℕ). T (member x xs)) (sym (h .here 0 (w .0) (w .1)) ∙ eqb→eq (numberAt 2 bytes (p + 2 * w .0)) j (w .2)) (index-member xs (w .0) (w .1)))
+    let e : getD xs (w .0) 0 ≡ j = sym (h .here 0 (w .0) (w .1)) ∙ eqb→eq (numberAt 2 bytes (p + 2 * w .0)) j (w .2) in
+    subst (λ (x : ℕ). T (member x xs)) e (index-member xs (w .0) (w .1)))
 
 -- ---- an action set is within the task's actions
 
@@ -69,16 +70,16 @@ node-fits t g e all h k i u = ltb→lt i (length (t .actions)) u
 node-fits t g e (listed is) h k i u = member-fits (length (t .actions)) 0 is (h .2) i u
 node-fits t g e (either a b) h k i u = elim (or-cases (g a i) (g b i) u) [ inl s ↦ k a i (h .0) s | inr s ↦ k b i (h .1) s ]
 
-module _ (bytes : List ℕ) (at : Places) (index : List ℕ) (k : Known bytes at index) where
+module _ (bytes : List ℕ) (index : List ℕ) (k : Known bytes index) where
   abbrev f : File
   f = decoded bytes
 
   actions-below : (n e i : ℕ) → e < n → T (inActions f e i) → i < length (f .task .actions)
   actions-below zero e i l t = absurd (omega arith)
   actions-below (suc n) e i l t =
-      node-fits (f .task) (inActions f) e (actionSetAt f e) (action-set-fits bytes f (known-read bytes at index k) e)
+      node-fits (f .task) (inActions f) e (actionSetAt f e) (action-set-fits bytes f (read-file bytes (k .read)) e)
       (λ a j b. actions-below n a j (omega arith)) i
-      (subst (λ (X : ℕ → Bool). T (X i)) (in-actions f (known-ordered bytes at index k) e) t)
+      (subst (λ (X : ℕ → Bool). T (X i)) (in-actions f (read-ordered bytes (k .read)) e) t)
 
   -- marks that are all marked: the inclusion of the two sets
   pub within-marks : (a b : ℕ) (u v : List ℕ) → Marks u (inActions f a) → Marks v (inActions f b)
@@ -86,8 +87,8 @@ module _ (bytes : List ℕ) (at : Places) (index : List ℕ) (k : Known bytes at
   unfolding actionsWithin
   within-marks a b u v p q =
       let n = length (f .task .actions) in
-      let few : n ≤ 256 = known-read bytes at index k .task .few-actions in
-      same-tests _ _
+      let few : n ≤ 256 = read-file bytes (k .read) .task .few-actions in
+      both-ways _ _
       (λ h. all-of n _ (λ i l.
       let c : i < 256 = omega arith in
       implies-of (inActions f a i) (inActions f b i)
@@ -99,25 +100,25 @@ module _ (bytes : List ℕ) (at : Places) (index : List ℕ) (k : Known bytes at
 
   -- ---- entry e, and what it holds by the view of it
 
-  module _ (e : ℕ) (l : e < at .«action_sets») where
+  module _ (e : ℕ) (l : e < length (f .actionSets)) where
     pub small : e < 256
-    small = let h = known-fit bytes at index k .few-action-sets in omega arith
+    small = let h = read-file bytes (k .read) .few-action-sets in omega arith
 
     module _ (v : ActionEntry) (q : v ≡ viewOfActions (actionPlace index e) (actionSetAt f e)) where
       seen : (w : ActionEntry) → v ≡ w → ActionsSeen bytes w (actionSetAt f e)
       seen w z =
-          let s = known-action-set bytes at index k e l in
+          let s = known-action-set bytes index k e l in
           subst (λ (y : ActionEntry). ActionsSeen bytes y (actionSetAt f e)) z
           (actions-seen bytes (actionPlace index e) (actionSetAt f e) s v (q ∙ sym (s .view)))
 
       holds : (x : ActionSet) → actionSetAt f e ≡ x → (i : ℕ) → inActions f e i ≡ actionNode (f .task) (inActions f) x i
       holds x z i =
-          ap (λ (X : ℕ → Bool). X i) (in-actions f (known-ordered bytes at index k) e)
+          ap (λ (X : ℕ → Bool). X i) (in-actions f (read-ordered bytes (k .read)) e)
           ∙ ap (λ (y : ActionSet). actionNode (f .task) (inActions f) y i) z
 
-      pub all-in : v ≡ All → (i : ℕ) → inActions f e i ≡ ltb i (at .actions)
+      pub all-in : v ≡ All → (i : ℕ) → inActions f e i ≡ ltb i (length (f .task .actions))
       unfolding actionNode
-      all-in z i = holds all (seen All z) i ∙ ap (ltb i) (sym (known-actions bytes at index k))
+      all-in z i = holds all (seen All z) i
 
       pub listed-in : (s : Span) → v ≡ Listed s → (i : ℕ) → inActions f e i ≡ listedIn bytes (s .at) (s .count) i
       unfolding actionNode
@@ -130,7 +131,7 @@ module _ (bytes : List ℕ) (at : Places) (index : List ℕ) (k : Known bytes at
       either-in a b z i = holds (either a b) (seen (Either a b) z) i
 
       pub either-below : (a b : ℕ) → v ≡ Either a b → (a < e) × (b < e)
-      either-below a b z = subst (EarlierActions e) (seen (Either a b) z) (known-ordered bytes at index k .actions e)
+      either-below a b z = subst (EarlierActions e) (seen (Either a b) z) (read-ordered bytes (k .read) .actions e)
 
       pub either-small : (a b : ℕ) → v ≡ Either a b → (a < 256) × (b < 256)
       either-small a b z =

@@ -1,4 +1,4 @@
 pub mod MarkLaws
 pub mod ActionLaws
 pub mod EntryActions
-pub mod WalkLaws
+pub mod SearchLaws

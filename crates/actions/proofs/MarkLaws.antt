@@ -5,7 +5,7 @@ use Prim.Native.Nat.{ℕ, zero, suc, _+_, _*_, _/_, _%_, _^_, _≤_, _<_, max}
 use native.Mathlib.Nat.{pow-suc, mod-eq-of-lt, one-mul}
 use native.Mathlib.Omega.{arith}
 use native.Mathlib.Decide.{ℕ-discrete, decLt}
-use mathlib.Core.Bool.{Bool, true, false, not, _&&_, _||_}
+use mathlib.Core.Bool.{Bool, false, not, _&&_, _||_}
 use mathlib.Core.List.{List, [], _∷_}
 use lib.ListN.{getD, set}
 use lib.Seq.{getD-set-same, getD-set-other}
@@ -13,10 +13,10 @@ use lib.Bits.{bitOr}
 use lib.Pow.{pow-lt}
 use lib.Dec.{T, eqb, eqb-refl, eqb→eq}
 use borrow.Author.Tests.{eq-eqb, ne-eqb}
-use Rattle.task.proofs.Tests.{and-left, and-right, and-both, or-left, implied}
-use Rattle.task.proofs.Bits.{bit, same-bits, bit-le, bit-or, bit-zero, bit-suc, bit-none, bit-high}
+use Rattle.task.proofs.Tests.{both-ways, and-left, and-right, and-both, or-left, implied}
+use Rattle.task.proofs.Bits.{same-bits, bit-le, bit-or, bit-zero, bit-suc, bit-none, bit-high}
 use Rattle.meaning.specs.Sets.{allBelow}
-use Rattle.task.specs.Inner.{has}
+use Rattle.task.specs.Inner.{bit, has}
 use Rattle.actions.specs.Marks.{marked, Marks}
 use Rattle.meaning.proofs.Below.{all-at, all-of}
 use Rattle.meaning.proofs.Sets.{implies-of}
@@ -87,7 +87,8 @@ unfolding marked
 one-marked i w h e j l =
     elim (ℕ-discrete (j / 64) (i / 64)) [
       | yes q ↦ rw (q, getD-set-same zeros (i / 64) w 0 (omega arith), e) (has-pow (j % 64) (i % 64) ∙ by-rest q)
-      | no q ↦ rw (getD-set-other zeros (i / 64) (j / 64) w 0 q, none (j / 64)) (has-none (j % 64) ∙ sym (ne-eqb j i (λ z. q (ap (λ (x : ℕ). x / 64) z))))
+      | no q ↦ rw (getD-set-other zeros (i / 64) (j / 64) w 0 q, none (j / 64))
+          (has-none (j % 64) ∙ sym (ne-eqb j i (λ z. q (ap (λ (x : ℕ). x / 64) z))))
     ]
   where
     by-rest : j / 64 ≡ i / 64 → eqb (j % 64) (i % 64) ≡ eqb j i
@@ -107,7 +108,8 @@ four P a b c d (suc (suc (suc (suc k)))) h = absurd (omega arith)
 
 abbrev pub orAll : List ℕ → List ℕ → List ℕ
 orAll a b =
-    bitOr (getD a 0 0) (getD b 0 0) ∷ bitOr (getD a 1 0) (getD b 1 0) ∷ bitOr (getD a 2 0) (getD b 2 0) ∷ bitOr (getD a 3 0) (getD b 3 0) ∷ []
+    bitOr (getD a 0 0) (getD b 0 0) ∷ bitOr (getD a 1 0) (getD b 1 0)
+    ∷ bitOr (getD a 2 0) (getD b 2 0) ∷ bitOr (getD a 3 0) (getD b 3 0) ∷ []
 
 pub united-marks : (a b : List ℕ) → Marks (orAll a b) (λ i. marked a i || marked b i)
 unfolding marked
@@ -117,12 +119,6 @@ united-marks a b i h =
 
 -- ---- marked in one and in the other
 
-pub same-tests : (a b : Bool) → (T a → T b) → (T b → T a) → a ≡ b
-same-tests true true h k = refl
-same-tests true false h k = absurd (h tt)
-same-tests false true h k = absurd (k tt)
-same-tests false false h k = refl
-
 -- every fact of a is one of b
 within-has : (a b : ℕ) → T (eqb (bitOr a b) b) → (k : ℕ) → T (has a k) → T (has b k)
 within-has a b t k h =
@@ -130,7 +126,9 @@ within-has a b t k h =
 
 has-within : (a b : ℕ) → a < 2 ^ 64 → ((k : ℕ) → k < 64 → T (has a k) → T (has b k)) → T (eqb (bitOr a b) b)
 has-within a b l h =
-    subst (λ (x : ℕ). T (eqb x b)) (sym (same-bits (bitOr a b) b (λ k. bit-or k a b ∙ digit (bit k a) (bit k b) (bit-le k a) (bit-le k b) (λ e. on k e)))) (eqb-refl b)
+    let same : bitOr a b ≡ b =
+    same-bits (bitOr a b) b (λ k. bit-or k a b ∙ digit (bit k a) (bit k b) (bit-le k a) (bit-le k b) (λ e. on k e)) in
+    subst (λ (x : ℕ). T (eqb x b)) (sym same) (eqb-refl b)
   where
     digit : (x y : ℕ) → x ≤ 1 → y ≤ 1 → (x ≡ 1 → y ≡ 1) → max x y ≡ y
     digit zero y l m f = omega arith
@@ -140,20 +138,23 @@ has-within a b l h =
     on : (k : ℕ) → bit k a ≡ 1 → bit k b ≡ 1
     on k e =
         elim (decLt k 64) [
-          | yes s ↦ eqb→eq (bit k b) 1 (subst T (has-bit b k) (h k s (subst T (sym (has-bit a k)) (subst (λ (x : ℕ). T (eqb x 1)) (sym e) tt))))
+          | yes s ↦ (
+              let t : T (has a k) = subst T (sym (has-bit a k)) (subst (λ (x : ℕ). T (eqb x 1)) (sym e) tt) in
+              eqb→eq (bit k b) 1 (subst T (has-bit b k) (h k s t)))
           | no s ↦ absurd (let z = bit-high 64 k a l (omega arith) in omega arith)
         ]
 
 pub within-words : (a b : ℕ) → a < 2 ^ 64 → eqb (bitOr a b) b ≡ allBelow 64 (λ k. not (has a k) || has b k)
 within-words a b l =
-    same-tests _ _
+    both-ways _ _
     (λ t. all-of 64 _ (λ k s. implies-of (has a k) (has b k) (within-has a b t k)))
     (λ t. has-within a b l (λ k s. implied (has a k) (has b k) (all-at 64 _ t k s)))
 
 -- 256 marks are four times 64
-pub all-four : (t : ℕ → ℕ → Bool) → (allBelow 64 (t 0) && allBelow 64 (t 1) && allBelow 64 (t 2) && allBelow 64 (t 3)) ≡ allBelow 256 (λ i. t (i / 64) (i % 64))
+pub all-four : (t : ℕ → ℕ → Bool)
+    → (allBelow 64 (t 0) && allBelow 64 (t 1) && allBelow 64 (t 2) && allBelow 64 (t 3)) ≡ allBelow 256 (λ i. t (i / 64) (i % 64))
 all-four t =
-    same-tests _ _
+    both-ways _ _
     (λ h.
     let h₃ = and-left (allBelow 64 (t 0) && allBelow 64 (t 1) && allBelow 64 (t 2)) (allBelow 64 (t 3)) h in
     let h₂ = and-left (allBelow 64 (t 0) && allBelow 64 (t 1)) (allBelow 64 (t 2)) h₃ in
@@ -167,7 +168,8 @@ all-four t =
     (λ h.
     and-both (allBelow 64 (t 0) && allBelow 64 (t 1) && allBelow 64 (t 2)) (allBelow 64 (t 3))
     (and-both (allBelow 64 (t 0) && allBelow 64 (t 1)) (allBelow 64 (t 2))
-    (and-both (allBelow 64 (t 0)) (allBelow 64 (t 1)) (part h 0 (omega arith)) (part h 1 (omega arith))) (part h 2 (omega arith))) (part h 3 (omega arith)))
+    (and-both (allBelow 64 (t 0)) (allBelow 64 (t 1)) (part h 0 (omega arith)) (part h 1 (omega arith)))
+    (part h 2 (omega arith))) (part h 3 (omega arith)))
   where
     part : T (allBelow 256 (λ i. t (i / 64) (i % 64))) → (k : ℕ) → k < 4 → T (allBelow 64 (t k))
     part h k l =

@@ -4,13 +4,15 @@ use crate::marks::is_marked;
 use crate::marks::united;
 use crate::marks::with_mark;
 use certificate::ActionEntry;
-use certificate::Places;
+use certificate::Index;
 use certificate::Span;
-use certificate::known::action_set;
+use certificate::lookup::action_count;
+use certificate::lookup::action_set;
 use certificate::views::action_in;
 ghost use mathlib.Core.Path.{_≡_};
 ghost use mathlib.Core.Bool.{_||_};
 ghost use Prim.Native.Nat.{_+_, _≤_, _<_};
+ghost use lib.ListN.{length};
 ghost use lib.Dec.{ltb};
 ghost use Rattle.certificate.specs.Known.{Known, decoded};
 ghost use Rattle.meaning.specs.Sets.{inActions, actionsWithin};
@@ -53,33 +55,33 @@ fn with_listed(file: &[u8], span: Span, words: [u64; 4]) -> [u64; 4]
 }
 
 // What is found of an action set, and the entries that are still to be looked at.
-struct Walk {
+struct Search {
     wanted: [u64; 4],
     found: [u64; 4],
 }
 
 // Looks at entry e, where it is wanted.
-fn look(file: &[u8], at: Places, index: &[u16; 768], e: u16, walk: Walk, a: u16) -> Walk
-    requires { ⌜ Known (now file) at (now index) ⌝ }
-    requires { ⌜ (e < at .«action_sets») × Looking (decoded (now file)) a (e + 1) (walk .wanted) (walk .found) ⌝ }
+fn look(file: &[u8], index: &Index, e: u16, search: Search, a: u16) -> Search
+    requires { ⌜ Known (now file) (now index) ⌝ }
+    requires { ⌜ (e < length (decoded (now file) .actionSets)) × Looking (decoded (now file)) a (e + 1) (search .wanted) (search .found) ⌝ }
     ensures { λ r. ⌜ Looking (decoded (now (file .entry))) a e (r .wanted) (r .found) ⌝ }
 {
-    let wanted = walk.wanted;
-    let found = walk.found;
+    let wanted = search.wanted;
+    let found = search.found;
     if !is_marked(wanted, e) {
-        return walk;
+        return search;
     }
-    match action_set(file, at, index, e) {
+    match action_set(file, index, e) {
         ActionEntry::All => {
-            let more = united(found, first_marks(at.actions));
-            Walk {
+            let more = united(found, first_marks(action_count(file)));
+            Search {
                 wanted,
                 found: more,
             }
         }
         ActionEntry::Listed(span) => {
             let more = with_listed(file, span, found);
-            Walk {
+            Search {
                 wanted,
                 found: more,
             }
@@ -87,7 +89,7 @@ fn look(file: &[u8], at: Places, index: &[u16; 768], e: u16, walk: Walk, a: u16)
         ActionEntry::Either(x, y) => {
             let one = with_mark(wanted, x);
             let both = with_mark(one, y);
-            Walk {
+            Search {
                 wanted: both,
                 found,
             }
@@ -96,32 +98,29 @@ fn look(file: &[u8], at: Places, index: &[u16; 768], e: u16, walk: Walk, a: u16)
 }
 
 // Action set a as marks.
-pub fn action_marks(file: &[u8], at: Places, index: &[u16; 768], a: u16) -> [u64; 4]
-    requires { ⌜ Known (now file) at (now index) ⌝ }
-    requires { ⌜ a < at .«action_sets» ⌝ }
+pub fn action_marks(file: &[u8], index: &Index, a: u16) -> [u64; 4]
+    requires { ⌜ Known (now file) (now index) ⌝ }
+    requires { ⌜ a < length (decoded (now file) .actionSets) ⌝ }
     ensures { λ r. ⌜ Marks r (inActions (decoded (now (file .entry))) a) ⌝ }
 {
-    let mut walk = Walk {
+    let mut search = Search {
         wanted: with_mark([0u64; 4], a),
         found: [0u64; 4],
     };
     let mut e = a + 1;
     while 0 < e {
         e -= 1;
-        let next = look(file, at, index, e, walk, a);
-        walk = next;
+        let next = look(file, index, e, search, a);
+        search = next;
     }
-    walk.found
+    search.found
 }
 
 // B5: whether every action of set a is in set b.
-pub fn actions_within(file: &[u8], at: Places, index: &[u16; 768], a: u16, b: u16) -> bool
-    requires { ⌜ Known (now file) at (now index) ⌝ }
-    requires { ⌜ (a < at .«action_sets») × (b < at .«action_sets») ⌝ }
+pub fn actions_within(file: &[u8], index: &Index, a: u16, b: u16) -> bool
+    requires { ⌜ Known (now file) (now index) ⌝ }
+    requires { ⌜ (a < length (decoded (now file) .actionSets)) × (b < length (decoded (now file) .actionSets)) ⌝ }
     ensures { λ r. ⌜ r ≡ actionsWithin (decoded (now (file .entry))) a b ⌝ }
 {
-    all_marked(
-        action_marks(file, at, index, a),
-        action_marks(file, at, index, b),
-    )
+    all_marked(action_marks(file, index, a), action_marks(file, index, b))
 }

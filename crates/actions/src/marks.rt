@@ -1,8 +1,8 @@
 // An action set as 256 marks, four words of 64.
 ghost use mathlib.Core.Path.{_≡_};
-ghost use Prim.Native.Nat.{ℕ, _<_, _≤_, _^_, _%_};
-ghost use mathlib.Core.Bool.{_&&_, _||_, not};
-ghost use lib.Dec.{eqb, ltb};
+ghost use Prim.Native.Nat.{_<_, _^_, _%_};
+ghost use mathlib.Core.Bool.{_||_, not};
+ghost use lib.Dec.{eqb};
 ghost use Rattle.meaning.specs.Sets.{allBelow};
 ghost use Rattle.task.specs.Inner.{has};
 ghost use Rattle.actions.specs.Marks.{marked, Marks};

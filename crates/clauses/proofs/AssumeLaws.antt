@@ -9,7 +9,8 @@ use lib.Bits.{bitAnd, bitOr}
 use lib.Dec.{T, eqb}
 use borrow.Author.Tests.{eq-eqb, eqb-true}
 use Rattle.task.proofs.Tests.{not-of}
-use Rattle.task.proofs.Bits.{bit, bit-le, bit-and, bit-or, no-bits}
+use Rattle.task.specs.Inner.{bit}
+use Rattle.task.proofs.Bits.{bit-le, bit-and, bit-or, no-bits}
 use Rattle.meaning.specs.declared.Clause.{Clause}
 use Rattle.propagation.specs.declared.Assignment.{Assignment}
 use Rattle.meaning.specs.Sets.{meets}
@@ -63,7 +64,9 @@ module _ (x : Assignment) (c : Clause) where
 
   calm-clear : r .conflict ≡ false → (x .conflict ≡ false) × clear
   unfolding clear
-  calm-clear z = let p = calm-or (x .conflict) (not (eqb (bitAnd (r .on) (r .off)) 0)) z in (p .0, eqb-true (bitAnd (r .on) (r .off)) 0 (un-not (eqb (bitAnd (r .on) (r .off)) 0) (p .1)))
+  calm-clear z =
+      let p = calm-or (x .conflict) (not (eqb (bitAnd (r .on) (r .off)) 0)) z in
+      (p .0, eqb-true (bitAnd (r .on) (r .off)) 0 (un-not (eqb (bitAnd (r .on) (r .off)) 0) (p .1)))
     where
       un-not : (b : Bool) → not b ≡ false → b ≡ true
       un-not true e = refl
@@ -112,7 +115,8 @@ module _ (x : Assignment) (c : Clause) where
           ]
 
 -- a state that agrees fails the clause
-pub against : (c : Clause) (r : Assignment) → ((b : Bool) (f : ℕ) → Has c b f → bit f (failing b r) ≡ 1) → (s : ℕ) → Agrees s r → T (not (meets s c))
+pub against : (c : Clause) (r : Assignment) → ((b : Bool) (f : ℕ) → Has c b f → bit f (failing b r) ≡ 1) → (s : ℕ) → Agrees s r
+    → T (not (meets s c))
 against c r told s g = not-of (meets s c) (λ t. never-met (met-by s c t))
   where
     never-met : (b : Bool) × (f : ℕ) × Has c b f × (bit f s ≡ value b) → ⊥
@@ -124,10 +128,15 @@ against c r told s g = not-of (meets s c) (λ t. never-met (met-by s c t))
 module _ (two : Bool) (P : Clause → Type 0) (c : Clause) (x y : Assignment) (o : Opposed c x y) where
   -- nothing new, or a conflict: no look is needed
   pub assumed-conflict : y .conflict ≡ true → Assumed two P c x y
-  assumed-conflict t = record { goes = going-under (λ s p. p .1) (o .goes); told = o .told; settled = λ z. absurd (true≢false (sym t ∙ z)) }
+  assumed-conflict t = record {
+    goes = going-under (λ s p. p .1) (o .goes);
+    told = o .told;
+    settled = λ z. absurd (true≢false (sym t ∙ z));
+  }
 
   pub assumed-same : Alike two x y → Assumed two P c x y
-  assumed-same e = record { goes = going-under (λ s p. p .1) (o .goes); told = o .told; settled = λ z h. alike two x y {P = P} e (o .goes .grows) h }
+  assumed-same e =
+      record { goes = going-under (λ s p. p .1) (o .goes); told = o .told; settled = λ z h. alike two x y {P = P} e (o .goes .grows) h }
 
   pub assumed-solved : (r : Assignment) → Solved two P y r → Assumed two P c x r
   assumed-solved r v =

@@ -1,6 +1,6 @@
 -- Horn and two-literal clauses: what they have in common, and for each that a calm settled assignment leaves a state that meets them.
 -- Assumes nothing.
-use Prim.Native.Nat.{ℕ, zero, suc, _+_, _-_, _≤_, _<_, _^_}
+use Prim.Native.Nat.{ℕ, suc, _+_, _-_, _≤_, _<_, _^_}
 use mathlib.Core.Path.{_≡_, refl, sym, subst, _∙_}
 use mathlib.Core.Bool.{Bool, true, false, true≢false}
 use mathlib.Core.List.{List}
@@ -11,26 +11,31 @@ use lib.Dec.{T, leb→le}
 use Rattle.task.specs.declared.Action.{Action}
 use Rattle.task.specs.Facts.{without}
 use Rattle.task.proofs.Tests.{excluded}
-use Rattle.task.proofs.Bits.{bit, bit-without}
+use Rattle.task.proofs.Bits.{bit-without}
 use Rattle.meaning.specs.declared.Clause.{Clause}
 use Rattle.meaning.specs.Layout.{onesIn, hornRule, twoCnfRule}
-use Rattle.task.specs.Inner.{has}
-use Rattle.propagation.specs.Clauses.{metBy, pulled, clauseAt, sameAs, onIn}
-use Rattle.propagation.specs.Propagation.{wordsAt, Horn, ruleOf}
+use Rattle.task.specs.Inner.{bit, has}
+use Rattle.task.specs.declared.Ends.{Ends}
+use Rattle.bytes.specs.ClauseRule.{clauseRule}
+use Rattle.certificate.specs.declared.BasicEntry.{BasicEntry}
+use Rattle.certificate.specs.declared.BasicEntry.the-variants.{Empty, Init, Goal, Explicit, Horn, TwoCnf}
+use Rattle.leaves.specs.declared.Leaf.{Leaf}
+use Rattle.propagation.specs.Clauses.{sameAs, onIn, clauseCount, wordsOf, ownClause, clauseOf, acting, OfLeaf, ClausalSet, Clausal}
+use Rattle.propagation.specs.Propagation.{OneHead}
 use Rattle.propagation.proofs.OneFact.{off-in, bit-only, bit-other, ones-less}
-use Rattle.propagation.proofs.ClauseLaws.{Has, anything, rest, rest-has, pulled-met, pulled-rest}
+use Rattle.propagation.proofs.ClauseLaws.{Has, anything, rest, rest-has, metIn, pulled, pulled-met, pulled-rest}
 
 -- ---- the shapes, in terms of literals
 
 -- two-literal: of three literals, two are the same
-abbrev TwoCnf : Clause → Type 0
-TwoCnf c =
+abbrev TwoLiteral : Clause → Type 0
+TwoLiteral c =
     (a b d : Bool) (f g h : ℕ) → f < 64 → g < 64 → h < 64 → Has c a f → Has c b g → Has c d h
     → (a ≡ b → f ≡ g → ⊥) → ((a ≡ d) × (f ≡ h)) ⊎ ((b ≡ d) × (g ≡ h))
 
 abbrev pub Shaped : Bool → Clause → Type 0
-Shaped true = TwoCnf
-Shaped false = Horn
+Shaped true = TwoLiteral
+Shaped false = OneHead
 
 -- a clause with fewer literals
 shaped-less : (two : Bool) (c d : Clause) → ((b : Bool) (f : ℕ) → Has d b f → Has c b f) → Shaped two c → Shaped two d
@@ -56,7 +61,7 @@ shaped-one true c i h = λ a b d f g k lf lg lk p q r n.
 -- pulled through an action a clause keeps its shape
 pub shaped-pulled : (two : Bool) (a : Action) (c : Clause) → Shaped two c → Shaped two (pulled a c)
 shaped-pulled two a c h =
-    elim (excluded (metBy a c)) [
+    elim (excluded (metIn a c)) [
       | inl t ↦ subst (Shaped two) (sym (pulled-met a c t)) (shaped-one two anything 0 (λ b. zeroth b))
       | inr t ↦ subst (Shaped two) (sym (pulled-rest a c t)) (shaped-less two c (rest a c) (λ b f k. rest-has a c b f k .0) h)
     ]
@@ -100,17 +105,18 @@ strike-has true false f g c n h = h
 strike-has false true f g c n h = h
 strike-has false false f g c n h = omega (arith, bit-without g (c .negative) (2 ^ f), bit-other g f (λ e. n refl (sym e)))
 
-horn-rule : (c : Clause) → T (hornRule (c .positive) (c .negative)) → Horn c
+horn-rule : (c : Clause) → T (hornRule (c .positive) (c .negative)) → OneHead c
 unfolding hornRule strike
 horn-rule c t f g lf lg p q =
     elim (same-literal true true f g) [
       | inl e ↦ e .1
       | inr n ↦
           let m : onesIn 64 (c .positive) ≤ 1 = leb→le (onesIn 64 (c .positive)) 1 t in
-          absurd (omega (arith, ones-less 64 f (c .positive) lf p, ones-less 64 g (without (c .positive) (2 ^ f)) lg (strike-has true true f g c n q)))
+          let q′ = strike-has true true f g c n q in
+          absurd (omega (arith, ones-less 64 f (c .positive) lf p, ones-less 64 g (without (c .positive) (2 ^ f)) lg q′))
     ]
 
-two-rule : (c : Clause) → T (twoCnfRule (c .positive) (c .negative)) → TwoCnf c
+two-rule : (c : Clause) → T (twoCnfRule (c .positive) (c .negative)) → TwoLiteral c
 unfolding twoCnfRule ones
 two-rule c t a b d f g h lf lg lh p q r n =
     elim (same-literal a d f h) [
@@ -127,11 +133,12 @@ two-rule c t a b d f g h lf lg lh p q r n =
       ]
     ]
 
-shaped-rule : (two : Bool) (c : Clause) → T (ruleOf two c) → Shaped two c
+shaped-rule : (two : Bool) (c : Clause) → T (clauseRule two (c .positive) (c .negative)) → Shaped two c
+unfolding clauseRule
 shaped-rule true = two-rule
 shaped-rule false = horn-rule
 
--- ---- the clauses of a leaf: those of kinds 0, 1 and 2 have either shape
+-- ---- the clauses of a leaf: those that do not stand in the file have either shape
 
 none-of : (i f : ℕ) → bit f 0 ≡ 1 → f ≡ i
 none-of i f e = absurd (omega (arith, off-in {m = 0} refl f))
@@ -144,7 +151,8 @@ same-as-of : (m i : ℕ) (b : Bool) (f : ℕ) → Has (sameAs m i) b f → f ≡
 unfolding sameAs
 same-as-of m i b f e = by (has m i) b e
   where
-    by : (t b : Bool) → Has (elim t [ true ↦ record { positive = 2 ^ i; negative = 0 } | false ↦ record { positive = 0; negative = 2 ^ i } ]) b f → f ≡ i
+    by : (t b : Bool)
+        → Has (elim t [ true ↦ record { positive = 2 ^ i; negative = 0 } | false ↦ record { positive = 0; negative = 2 ^ i } ]) b f → f ≡ i
     by true true e = bit-only f i e
     by true false e = none-of i f e
     by false true e = none-of i f e
@@ -154,16 +162,23 @@ on-in-of : (m i : ℕ) (b : Bool) (f : ℕ) → Has (onIn m i) b f → f ≡ i
 unfolding onIn
 on-in-of m i b f e = by (has m i) b e
   where
-    by : (t b : Bool) → Has (elim t [ true ↦ record { positive = 2 ^ i; negative = 0 } | false ↦ record { positive = 2 ^ i; negative = 2 ^ i } ]) b f → f ≡ i
+    by : (t b : Bool)
+        → Has (elim t [ true ↦ record { positive = 2 ^ i; negative = 0 } | false ↦ record { positive = 2 ^ i; negative = 2 ^ i } ]) b f
+        → f ≡ i
     by true true e = bit-only f i e
     by true false e = none-of i f e
     by false true e = bit-only f i e
     by false false e = bit-only f i e
 
-module _ (bytes : List ℕ) (initial goal at i : ℕ) (two : Bool) where
-  pub shaped-at : (kind : ℕ) → (3 ≤ kind → T (ruleOf two (wordsAt bytes at i))) → Shaped two (clauseAt bytes initial goal kind at i)
-  unfolding clauseAt wordsAt
-  shaped-at zero h = shaped-one two (record { positive = 0; negative = 0 }) 0 empty-of
-  shaped-at (suc zero) h = shaped-one two (sameAs initial i) i (same-as-of initial i)
-  shaped-at (suc (suc zero)) h = shaped-one two (onIn goal i) i (on-in-of goal i)
-  shaped-at (suc (suc (suc k))) h = shaped-rule two _ (h (omega arith))
+module _ (bytes : List ℕ) (ends : Ends) (two : Bool) where
+  shaped-at : (x : BasicEntry) → ClausalSet bytes two x → (i : ℕ) → i < clauseCount x → Shaped two (clauseOf bytes ends x i)
+  unfolding clauseCount clauseOf wordsOf ownClause
+  shaped-at Empty h i l = shaped-one two (record { positive = 0; negative = 0 }) 0 empty-of
+  shaped-at Init h i l = shaped-one two (sameAs (ends .init) i) i (same-as-of (ends .init) i)
+  shaped-at Goal h i l = shaped-one two (onIn (ends .goal) i) i (on-in-of (ends .goal) i)
+  shaped-at (Explicit x) h i l = absurd h
+  shaped-at (Horn x) h i l = shaped-rule two _ (h .shape i l)
+  shaped-at (TwoCnf x) h i l = shaped-rule two _ (h .shape i l)
+
+  pub shaped-leaf : (a : Action) (x : Leaf) → Clausal bytes two x → (c : Clause) → OfLeaf bytes ends a x c → Shaped two c
+  shaped-leaf a x h c (i, l, e) = subst (Shaped two) (sym e) (shaped-pulled two (acting a (x .after)) _ (shaped-at (x .set) h i l))

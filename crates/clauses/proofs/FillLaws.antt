@@ -10,7 +10,8 @@ use native.Mathlib.Decide.{decLt}
 use lib.Dec.{T}
 use Rattle.task.specs.declared.Action.{Action}
 use Rattle.task.specs.Task.{after}
-use Rattle.task.proofs.Bits.{bit, bit-le, bit-high, bit-after, add-wins, del-last, after-lt}
+use Rattle.task.specs.Inner.{bit}
+use Rattle.task.proofs.Bits.{bit-le, bit-high, bit-after, add-wins, del-last, after-lt}
 use Rattle.meaning.specs.declared.Clause.{Clause}
 use Rattle.propagation.specs.declared.Assignment.{Assignment}
 use Rattle.meaning.specs.Sets.{meets}
@@ -27,7 +28,8 @@ held-met : (r : Assignment) (s : ℕ) (c : Clause) → Agrees s r → Held r c �
 held-met r s c g t = by-met s c (t .side) (t .fact) (t .has) (g .says (t .side) (t .fact) (t .holds))
 
 -- a clause settled in general is met by a state that agrees, where it is by one that is wide
-meets-settled : (P : Clause → Type 0) (r : Assignment) (s : ℕ) → Agrees s r → Settled true P r → ((c : Clause) → P c → Wide r c → T (meets s c)) → Meets P s
+meets-settled : (P : Clause → Type 0) (r : Assignment) (s : ℕ) → Agrees s r → Settled true P r
+    → ((c : Clause) → P c → Wide r c → T (meets s c)) → Meets P s
 meets-settled P r s g h k c p = ⊎-elim (held-met r s c g) (k c p) (h c p)
 
 module _ (r : Assignment) (fits : r .on < 2 ^ 64) (calm : r .conflict ≡ false) (apart : Apart r) where
@@ -41,12 +43,18 @@ module _ (r : Assignment) (fits : r .on < 2 ^ 64) (calm : r .conflict ≡ false)
 
   -- Horn: where the body is not all on, a fact of it is off in that state
   horn-fills : (P : Clause → Type 0) → Settled false P r → ((c : Clause) → P c → Shaped false c) → Meets P (r .on)
-  horn-fills P settled horn c p = ⊎-elim (held-met r (r .on) c on-agrees) (λ w. by-met (r .on) c false (w .fact) (w .has) (w .not-on)) (settled c p (horn c p))
+  horn-fills P settled horn c p =
+      ⊎-elim (held-met r (r .on) c on-agrees) (λ w. by-met (r .on) c false (w .fact) (w .has) (w .not-on)) (settled c p (horn c p))
 
-module _ (P : Clause → Type 0) (r : Assignment) (fits : r .on < 2 ^ 64) (calm : r .conflict ≡ false) (apart : Apart r) (settled : Settled true P r) where
+module _ (P : Clause → Type 0) (r : Assignment) (fits : r .on < 2 ^ 64) (calm : r .conflict ≡ false) (apart : Apart r)
+    (settled : Settled true P r) where
   -- no fact is open
   pub full-fills : ((f : ℕ) → f < 64 → 1 ≤ bit f (r .on) + bit f (r .off)) → Meets P (r .on)
-  full-fills full = meets-settled P r (r .on) (on-agrees r fits calm apart) settled (λ c p w. by-met (r .on) c (w .side₁) (w .fact₁) (w .has₁) (is (w .side₁) (w .fact₁) (low _ _ (w .fits (w .side₁)) (w .has₁)) (w .open₁)))
+  full-fills full =
+      meets-settled P r (r .on) (on-agrees r fits calm apart) settled
+      (λ c p w.
+      let l = low _ _ (w .fits (w .side₁)) (w .has₁) in
+      by-met (r .on) c (w .side₁) (w .fact₁) (w .has₁) (is (w .side₁) (w .fact₁) l (w .open₁)))
     where
       is : (b : Bool) (f : ℕ) → f < 64 → bit f (failing b r) ≡ 0 → bit f (r .on) ≡ value b
       is true f l e = omega (arith, full f l, bit-le f (r .on))
@@ -83,7 +91,8 @@ module _ (P : Clause → Type 0) (r : Assignment) (fits : r .on < 2 ^ 64) (calm 
         (λ e. ap₂ (λ (d : Bool) (k : ℕ). bit k (failing d r)) (sym (e .0)) (sym (e .1)) ∙ w .open₁)
         (λ e. ap₂ (λ (d : Bool) (k : ℕ). bit k (failing d r)) (sym (e .0)) (sym (e .1)) ∙ w .open₂)
         (two c p (w .side₁) (w .side₂) b (w .fact₁) (w .fact₂) f
-        (low (w .fact₁) (mask (w .side₁) c) (w .fits (w .side₁)) (w .has₁)) (low (w .fact₂) (mask (w .side₂) c) (w .fits (w .side₂)) (w .has₂)) (low f (mask b c) (w .fits b) (q .2))
+        (low (w .fact₁) (mask (w .side₁) c) (w .fits (w .side₁)) (w .has₁))
+        (low (w .fact₂) (mask (w .side₂) c) (w .fits (w .side₂)) (w .has₂)) (low f (mask b c) (w .fits b) (q .2))
         (w .has₁) (w .has₂) (q .2) (w .differ)))))
 
 -- ---- so the clauses can be filled
@@ -92,5 +101,8 @@ pub horn-fillable : (P : Clause → Type 0) → ((c : Clause) → P c → Shaped
 horn-fillable P h r fits calm apart settled = (r .on, on-agrees r fits calm apart, horn-fills r fits calm apart P settled h)
 
 pub two-fillable : (P : Clause → Type 0) → ((c : Clause) → P c → Shaped true c) → (s : ℕ) → s < 2 ^ 64 → Meets P s → Fillable true P
-two-fillable P h s hs m r fits calm apart settled =
-    (overlay P r fits calm apart settled s hs m, overlay-agrees P r fits calm apart settled s hs m, two-fills P r fits calm apart settled s hs m h)
+two-fillable P h s hs m r fits calm apart settled = (
+  overlay P r fits calm apart settled s hs m,
+  overlay-agrees P r fits calm apart settled s hs m,
+  two-fills P r fits calm apart settled s hs m h,
+)

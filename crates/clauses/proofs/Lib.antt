@@ -1,5 +1,7 @@
 pub mod ClauseShapes
 pub mod AssumeLaws
 pub mod FillLaws
-pub mod StartLaws
+pub mod OpenLaws
+pub mod SetLaws
 pub mod SeekLaws
+pub mod StartLaws

@@ -9,32 +9,30 @@ use native.Mathlib.Decide.{decLt}
 use native.Mathlib.Nat.{le-refl}
 use lib.Bits.{bitOr}
 use lib.Dec.{T}
-use Rattle.task.specs.declared.Action.{Action}
 use Rattle.task.proofs.Tests.{not-of, is-true, never}
-use Rattle.task.proofs.Bits.{bit, bit-le, bit-none, bit-or}
+use Rattle.task.specs.Inner.{bit}
+use Rattle.task.proofs.Bits.{bit-le, bit-none, bit-or}
 use Rattle.meaning.specs.declared.Clause.{Clause}
 use Rattle.propagation.specs.declared.Assignment.{Assignment}
 use Rattle.meaning.specs.Sets.{meets}
-use Rattle.propagation.specs.Clauses.{OfLeaves}
-use Rattle.propagation.specs.Propagation.{value, failing, Apart, Settled, Tells, Going, Assumed, Decided, Fillable, Ready, Model, Witness, Candidate, Sought, Usable}
+use Rattle.leaves.proofs.ListLaws.{each-at}
+use Rattle.propagation.specs.declared.Setting.{Setting}
+use Rattle.propagation.specs.Clauses.{LeftOf, Clausal, Usable}
+use Rattle.propagation.specs.Propagation.{value, failing, Apart, Settled, Tells, Going, Assumed}
+use Rattle.propagation.specs.Propagation.{Fixed, Fillable, Ready, Model, Witness, Candidate, Sought}
 use Rattle.propagation.proofs.OneFact.{bit-same, bit-only}
 use Rattle.propagation.proofs.ClauseLaws.{Has, met-by}
-use Rattle.propagation.proofs.CodeLaws.{count-words, pulled-by}
 use Rattle.propagation.proofs.PassLaws.{going-none, going-more, going-under}
-use Rattle.clauses.proofs.ClauseShapes.{Shaped, shaped-at, shaped-pulled}
+use Rattle.clauses.proofs.ClauseShapes.{Shaped, shaped-leaf}
 use Rattle.clauses.proofs.FillLaws.{on-agrees, full-fills, overlay, overlay-agrees, two-fills}
 use Rattle.clauses.proofs.AssumeLaws.{against, agrees-before}
-use Rattle.propagation.proofs.LeafLaws.{kindOf, placeOf, countOf, actionOf, of-leaf}
 
 -- ---- the clauses of usable leaves have their shape
 
-pub usable-shaped : (bytes : List ℕ) (init goal : ℕ) (a : Action) (leaves : List ℕ) (m : ℕ) (two : Bool) → Usable bytes leaves m two → (c : Clause) → OfLeaves bytes init goal a leaves m c → Shaped two c
-usable-shaped bytes init goal a leaves m two u c p =
-    let j = p .0 in
-    let q = of-leaf bytes init goal a leaves j c (p .2) in
-    let shape = shaped-at bytes init goal (placeOf bytes init goal a leaves j) (q .0) two (kindOf bytes init goal a leaves j)
-    (λ l. u .shape j (q .0) (p .1) l (subst (λ (k : ℕ). q .0 < k) (count-words (kindOf bytes init goal a leaves j) (countOf bytes init goal a leaves j) l) (q .1))) in
-    subst (Shaped two) (sym (q .2 ∙ pulled-by (actionOf bytes init goal a leaves j) _)) (shaped-pulled two (actionOf bytes init goal a leaves j) _ shape)
+pub usable-shaped : (bytes leaves : List ℕ) (k : Setting) → Usable bytes leaves (k .m) (k .two) → (c : Clause) → LeftOf bytes leaves k c
+    → Shaped (k .two) c
+usable-shaped bytes leaves k u c (j, l, p) =
+    shaped-leaf bytes (k .ends) (k .two) (k .action) _ (each-at (Clausal bytes (k .two)) leaves (k .m) (u .0) (u .1) j l) c p
 
 -- ---- a test that is known
 
@@ -51,9 +49,9 @@ abbrev pub onClause : ℕ → Clause
 onClause i = record { positive = 0; negative = 2 ^ i }
 
 module _ (two : Bool) (P : Clause → Type 0) (x : Assignment) (i : ℕ) where
-  pub decided-already : bitOr (x .on) (x .off) / 2 ^ i % 2 ≡ 1 → Decided two P i x x
+  pub fixed-already : bitOr (x .on) (x .off) / 2 ^ i % 2 ≡ 1 → Fixed two P i x x
   unfolding bit
-  decided-already e =
+  fixed-already e =
       record {
         goes = going-none _ x;
         known = omega (arith, bit-or i (x .on) (x .off));
@@ -61,8 +59,8 @@ module _ (two : Bool) (P : Clause → Type 0) (x : Assignment) (i : ℕ) where
         none = λ t s g m. true≢false (sym t ∙ g .calm);
       }
 
-  pub decided-off : (y : Assignment) → Assumed two P (offClause i) x y → y .conflict ≡ false → Decided two P i x y
-  decided-off y u z =
+  pub fixed-off : (y : Assignment) → Assumed two P (offClause i) x y → y .conflict ≡ false → Fixed two P i x y
+  fixed-off y u z =
       record {
         goes = going-under (λ s p. absurd p) (u .goes);
         known = omega (arith, u .told true i (bit-same i));
@@ -70,15 +68,20 @@ module _ (two : Bool) (P : Clause → Type 0) (x : Assignment) (i : ℕ) where
         none = λ t. absurd (true≢false (sym t ∙ z));
       }
 
-  pub decided-on : (y r : Assignment) → Assumed two P (offClause i) x y → y .conflict ≡ true → Assumed two P (onClause i) x r → Decided two P i x r
-  decided-on y r u t v =
+  pub fixed-on : (y r : Assignment) → Assumed two P (offClause i) x y → y .conflict ≡ true → Assumed two P (onClause i) x r
+      → Fixed two P i x r
+  fixed-on y r u t v =
       record {
         goes = going-under (λ s p. absurd p) (v .goes);
         known = omega (arith, v .told false i (bit-same i));
         settled = v .settled;
         none = λ t′ s g m. elim (decLt (bit i s) 1) [
-          | yes l ↦ true≢false (sym t ∙ u .goes .sound s (m, not-of (meets s (offClause i)) (λ k. off-met s l (met-by s (offClause i) k))) g .calm)
-          | no l ↦ true≢false (sym t′ ∙ v .goes .sound s (m, not-of (meets s (onClause i)) (λ k. on-met s l (met-by s (onClause i) k))) g .calm)
+          | yes l ↦
+              let n = not-of (meets s (offClause i)) (λ k. off-met s l (met-by s (offClause i) k)) in
+              true≢false (sym t ∙ u .goes .sound s (m, n) g .calm)
+          | no l ↦
+              let n = not-of (meets s (onClause i)) (λ k. on-met s l (met-by s (onClause i) k)) in
+              true≢false (sym t′ ∙ v .goes .sound s (m, n) g .calm)
         ];
       }
     where
@@ -102,9 +105,10 @@ pub record Trying (two : Bool) (P : Clause → Type 0) (i : ℕ) (x r : Assignme
 
 module _ (two : Bool) (P : Clause → Type 0) where
   pub trying-none : (x : Assignment) → x .conflict ≡ false → Ready two P x → Trying two P 0 x x
-  trying-none x z r = record { goes = going-none _ x; calm = z; apart = r .apart z; settled = r .settled z; known = λ f l. absurd (omega arith) }
+  trying-none x z r =
+      record { goes = going-none _ x; calm = z; apart = r .apart z; settled = r .settled z; known = λ f l. absurd (omega arith) }
 
-  pub trying-more : {i : ℕ} {x y r : Assignment} → Trying two P i x y → Decided two P i y r → r .conflict ≡ false → Trying two P (i + 1) x r
+  pub trying-more : {i : ℕ} {x y r : Assignment} → Trying two P i x y → Fixed two P i y r → r .conflict ≡ false → Trying two P (i + 1) x r
   trying-more {i} {x} {y} {r} u v z =
       record {
         goes = going-more (λ s p. absurd p) (u .goes) (v .goes);
@@ -122,11 +126,15 @@ module _ (two : Bool) (P : Clause → Type 0) where
 
   -- every fact is known: the facts that are on are a model
   pub trying-done : two ≡ true → {i : ℕ} {x r : Assignment} → 64 ≤ i → Trying two P i x r → r .on < 2 ^ 64 → Model P x
-  trying-done e {i} {x} {r} l u fits =
-      (r .on, agrees-before (λ s. ⊥) x r (r .on) (u .goes) (on-agrees r fits (u .calm) (u .apart)), full-fills P r fits (u .calm) (u .apart) (general e r (u .settled)) (λ f k. u .known f (omega arith)))
+  trying-done e {i} {x} {r} l u fits = (
+    r .on,
+    agrees-before (λ s. ⊥) x r (r .on) (u .goes) (on-agrees r fits (u .calm) (u .apart)),
+    full-fills P r fits (u .calm) (u .apart) (general e r (u .settled)) (λ f k. u .known f (omega arith)),
+  )
 
   -- neither value of a fact can be: there is no model, since what is known could be put into it
-  pub trying-none-left : two ≡ true → ((c : Clause) → P c → Shaped two c) → {i : ℕ} {x y r : Assignment} → Trying two P i x y → y .on < 2 ^ 64 → Decided two P i y r → r .conflict ≡ true → Model P x → ⊥
+  pub trying-none-left : two ≡ true → ((c : Clause) → P c → Shaped two c) → {i : ℕ} {x y r : Assignment} → Trying two P i x y
+      → y .on < 2 ^ 64 → Fixed two P i y r → r .conflict ≡ true → Model P x → ⊥
   trying-none-left e shape {i} {x} {y} {r} u fits v t (s, g, m) =
       let h = general e y (u .settled) in
       v .none t (overlay P y fits (u .calm) (u .apart) h s (g .fits) m) (overlay-agrees P y fits (u .calm) (u .apart) h s (g .fits) m)
@@ -135,7 +143,8 @@ module _ (two : Bool) (P : Clause → Type 0) where
 -- ---- the right leaves in turn
 
 pub ready-next : {two : Bool} {P : Clause → Type 0} {c : Clause} {x y : Assignment} → Ready two P x → Assumed two P c x y → Ready two P y
-ready-next r u = record { apart = λ z. u .goes .apart z (r .apart (u .goes .calm z)); settled = λ z. u .settled z (r .settled (u .goes .calm z)) }
+ready-next r u =
+    record { apart = λ z. u .goes .apart z (r .apart (u .goes .calm z)); settled = λ z. u .settled z (r .settled (u .goes .calm z)) }
 
 pub witness-calm : {P : Clause → Type 0} {Q : ℕ → Clause → Type 0} {j : ℕ} {x : Assignment} → x .conflict ≡ true → Witness P Q j x → ⊥
 witness-calm t w = true≢false (sym t ∙ w .agrees .calm)
@@ -154,7 +163,8 @@ module _ (two : Bool) (P : Clause → Type 0) (Q : ℕ → Clause → Type 0) wh
         fails = λ k l h. absurd (omega arith);
       }
 
-  pub candidate-found : {j : ℕ} {c : Clause} {x y : Assignment} → Q j c → Assumed two P c x y → Candidate two P Q (j + 1) y → Candidate two P Q j x
+  pub candidate-found : {j : ℕ} {c : Clause} {x y : Assignment} → Q j c → Assumed two P c x y → Candidate two P Q (j + 1) y
+      → Candidate two P Q j x
   candidate-found {j} {c} {x} {y} q u w =
       record {
         grown = w .grown;
@@ -166,8 +176,12 @@ module _ (two : Bool) (P : Clause → Type 0) (Q : ℕ → Clause → Type 0) wh
         fails = λ k l h. elim (decLt j k) [
           | yes i ↦ w .fails k (omega arith) h
           | no i ↦
-              let e : j ≡ k = omega arith in
-              (c, subst (λ (k : ℕ). Q k c) e q, (λ b f t. omega (arith, u .told b f t, w .goes .grows (not b) f, bit-le f (failing b (w .grown)))))
+              let e : j ≡ k = omega arith in (
+                c,
+                subst (λ (k : ℕ). Q k c) e q,
+                (λ b f t.
+                    omega (arith, u .told b f t, w .goes .grows (not b) f, bit-le f (failing b (w .grown)))),
+              )
         ];
       }
 
@@ -196,7 +210,8 @@ module _ (P : Clause → Type 0) (Q : ℕ → Clause → Type 0) where
   abbrev pub Missing : (ℕ → Clause) → ℕ → ℕ → Assignment → Type 0
   Missing at i j x = (w : Witness P Q (j + 1) x) (k : ℕ) → k < i → T (not (meets (w .state) (at k))) → ⊥
 
-  pub missing-more : {two : Bool} (at : ℕ → Clause) (i j : ℕ) {x y : Assignment} → Missing at i j x → Assumed two P (at i) x y → (Witness P Q (j + 1) y → ⊥) → Missing at (i + 1) j x
+  pub missing-more : {two : Bool} (at : ℕ → Clause) (i j : ℕ) {x y : Assignment} → Missing at i j x → Assumed two P (at i) x y
+      → (Witness P Q (j + 1) y → ⊥) → Missing at (i + 1) j x
   missing-more at i j {x} {y} h u n w k l t =
       elim (decLt k i) [
         | yes p ↦ h w k p t
@@ -211,16 +226,23 @@ module _ (P : Clause → Type 0) (Q : ℕ → Clause → Type 0) where
       ]
 
   -- clauses that every witness meets
-  pub missing-past : (at : ℕ → Clause) (i r j : ℕ) {x : Assignment} → Missing at i j x → ((k : ℕ) → i ≤ k → k < r → P (at k)) → Missing at r j x
+  pub missing-past : (at : ℕ → Clause) (i r j : ℕ) {x : Assignment} → Missing at i j x → ((k : ℕ) → i ≤ k → k < r → P (at k))
+      → Missing at r j x
   missing-past at i r j {x} h p w k l t =
       elim (decLt k i) [
         | yes q ↦ h w k q t
         | no q ↦ never (meets (w .state) (at k)) (w .meets-left (at k) (p k (omega arith) l)) t
       ]
 
-  pub missing-all : (at : ℕ → Clause) (i j : ℕ) {x : Assignment} → j < 2 → ((c : Clause) → Q j c → (k : ℕ) × (k < i) × (c ≡ at k)) → Missing at i j x → Witness P Q j x → ⊥
+  pub missing-all : (at : ℕ → Clause) (i j : ℕ) {x : Assignment} → j < 2 → ((c : Clause) → Q j c → (k : ℕ) × (k < i) × (c ≡ at k))
+      → Missing at i j x → Witness P Q j x → ⊥
   missing-all at i j {x} l of h w =
       let r = w .fails j (le-refl j) l in
       let q = of (r .0) (r .1) in
-      h (record { state = w .state; agrees = w .agrees; meets-left = w .meets-left; fails = λ k m. w .fails k (omega arith) }) (q .0) (q .1)
+      h (record {
+        state = w .state;
+        agrees = w .agrees;
+        meets-left = w .meets-left;
+        fails = λ k m. w .fails k (omega arith);
+      }) (q .0) (q .1)
       (subst (λ (c : Clause). T (not (meets (w .state) c))) (q .2) (r .2))

@@ -1,27 +1,41 @@
 -- Where the search starts: the facts that an action needs are on, those above the task's are off. And what it then tells.
 -- Assumes nothing.
-use Prim.Native.Nat.{ℕ, zero, suc, _-_, _≤_, _<_, _^_}
+use Prim.Native.Nat.{ℕ, _-_, _≤_, _<_, _^_}
 use mathlib.Core.Path.{_≡_, refl, sym, ap, subst, _∙_}
 use mathlib.Core.Bool.{Bool, true, false, not, true≢false}
 use mathlib.Core.List.{List}
 use native.Mathlib.Omega.{arith}
 use native.Mathlib.Decide.{decLt}
+use lib.ListN.{length}
 use lib.Pow.{pow-mono, pow-pos}
 use lib.Bits.{bitAnd, mask-lt}
 use lib.Dec.{T}
 use Rattle.task.specs.declared.Action.{Action}
-use Rattle.task.specs.Facts.{allOn}
+use Rattle.task.specs.Task.{applies}
+use Rattle.task.specs.Inner.{bit}
 use Rattle.task.proofs.Tests.{not-of}
-use Rattle.task.proofs.Bits.{bit, bit-le, bit-none, bit-high, bit-not, bit-and, same-bits, all-on-at, all-on-of}
+use Rattle.task.proofs.Bits.{bit-le, bit-none, bit-high, bit-not, bit-and, same-bits, after-lt}
+use Rattle.task.proofs.Names.{applies-facts, applies-of}
 use Rattle.meaning.specs.declared.Clause.{Clause}
-use Rattle.propagation.specs.declared.Assignment.{Assignment}
 use Rattle.meaning.specs.Sets.{meets}
-use Rattle.propagation.specs.Clauses.{OfLeaves, Refutes}
-use Rattle.propagation.specs.Propagation.{holding, value, Agrees, Meets, Fails, Tells, Solved, Opposed, Ready, Model, Worth, Witness, Sought, Usable}
+use Rattle.counterexample.specs.Counter.{seen}
+use Rattle.certificate.specs.declared.BasicEntry.{BasicEntry}
+use Rattle.certificate.specs.declared.BasicEntry.the-variants.{Empty, Init, Goal, Explicit, Horn, TwoCnf}
+use Rattle.leaves.specs.declared.Leaf.{Leaf}
+use Rattle.leaves.specs.Leaves.{leafIn, leavesIn}
+use Rattle.leaves.specs.Lists.{Each, leafHolds, Countered}
+use Rattle.leaves.proofs.ListLaws.{each-at, each-of}
+use Rattle.propagation.specs.declared.Assignment.{Assignment}
+use Rattle.propagation.specs.declared.Setting.{Setting}
+use Rattle.propagation.specs.Clauses.{LeafOf, LeftOf, UnlistedSet, Unlisted, ClausalSet, Clausal, Usable}
+use Rattle.propagation.specs.Propagation.{holding, value, Agrees, Meets, Tells, Solved}
+use Rattle.propagation.specs.Propagation.{Opposed, Fillable, Ready, Model, Worth, Witness, Sought}
 use Rattle.propagation.proofs.ClauseLaws.{Has, met-by, fails-by}
+use Rattle.clauses.proofs.ClauseShapes.{Shaped}
 use Rattle.clauses.proofs.AssumeLaws.{against, agrees-before}
 use Rattle.clauses.proofs.SeekLaws.{tells-no, usable-shaped, candidate-fills, sought-not}
 use Rattle.clauses.proofs.FillLaws.{horn-fillable, two-fillable}
+use Rattle.clauses.proofs.SetLaws.{leaf-meets, leaf-fails}
 
 -- ---- the facts from n on
 
@@ -60,17 +74,23 @@ abbrev pub startClause : ℕ → Action → Clause
 startClause n a = record { positive = 2 ^ 64 - 2 ^ n; negative = a .pre }
 
 module _ (n : ℕ) (hn : n ≤ 64) (a : Action) (s : ℕ) where
-  pub start-fails : s < 2 ^ n → T (allOn (a .pre) s) → T (not (meets s (startClause n a)))
+  pub start-fails : s < 2 ^ n → T (applies a s) → T (not (meets s (startClause n a)))
   start-fails l t = not-of (meets s (startClause n a)) (λ m. by (met-by s (startClause n a) m))
     where
       by : (b : Bool) × (f : ℕ) × Has (startClause n a) b f × (bit f s ≡ value b) → ⊥
       by (true, f, h, v) = omega (arith, bit-high n f s l (on-high n hn f h))
-      by (false, f, h, v) = omega (arith, all-on-at (a .pre) s t f)
+      by (false, f, h, v) = omega (arith, applies-facts a s t f)
 
-  pub fails-start : s < 2 ^ 64 → T (not (meets s (startClause n a))) → (s < 2 ^ n) × T (allOn (a .pre) s)
+  pub fails-start : s < 2 ^ 64 → T (not (meets s (startClause n a))) → (s < 2 ^ n) × T (applies a s)
   fails-start l t = (
-    below-of n s (λ f k. elim (decLt f 64) [ yes m ↦ fails-by s (startClause n a) t true f (high-on n hn f m k) | no m ↦ bit-high 64 f s l (omega arith) ]),
-    all-on-of (a .pre) s (λ f. elim (decLt (bit f (a .pre)) 1) [ yes m ↦ omega arith | no m ↦ omega (arith, bit-le f (a .pre), fails-by s (startClause n a) t false f (omega (arith, bit-le f (a .pre)))) ]),
+    below-of n s (λ f k. elim (decLt f 64) [
+      | yes m ↦ fails-by s (startClause n a) t true f (high-on n hn f m k)
+      | no m ↦ bit-high 64 f s l (omega arith)
+    ]),
+    applies-of a s (λ f. elim (decLt (bit f (a .pre)) 1) [
+      | yes m ↦ omega arith
+      | no m ↦ omega (arith, bit-le f (a .pre), fails-by s (startClause n a) t false f (omega (arith, bit-le f (a .pre))))
+    ]),
   )
 
 -- ---- from the start to the answer
@@ -85,7 +105,8 @@ nothing-agrees s l = record { calm = refl; fits = l; says = says }
     says true f e = absurd (omega (arith, bit-none f))
     says false f e = absurd (omega (arith, bit-none f))
 
-module _ (two : Bool) (P : Clause → Type 0) (n : ℕ) (hn : n ≤ 64) (a : Action) (x y : Assignment) (o : Opposed (startClause n a) nothing x) (u : Solved two P x y) where
+module _ (two : Bool) (P : Clause → Type 0) (n : ℕ) (hn : n ≤ 64) (a : Action) (x y : Assignment)
+    (o : Opposed (startClause n a) nothing x) (u : Solved two P x y) where
   pub start-ready : Ready two P y
   start-ready =
       record {
@@ -93,62 +114,121 @@ module _ (two : Bool) (P : Clause → Type 0) (n : ℕ) (hn : n ≤ 64) (a : Act
         settled = u .settled;
       }
 
-  module _ (Q : ℕ → Clause → Type 0) where
-    to-refutes : Witness P Q 0 y → Refutes n a P (Q 0) (Q 1)
-    to-refutes w =
-        let g = agrees-before (Meets P) x y (w .state) (u .goes) (w .agrees) in
-        let r = fails-start n hn a (w .state) (w .agrees .fits) (against (startClause n a) x (o .told) (w .state) g) in
-        let f₁ = w .fails 0 (omega arith) (omega arith) in
-        let f₂ = w .fails 1 (omega arith) (omega arith) in
-        record {
-          state = w .state;
-          low = r .0;
-          allowed = r .1;
-          meets-left = w .meets-left;
-          failed₁ = f₁ .0;
-          of₁ = f₁ .1;
-          fails₁ = f₁ .2;
-          failed₂ = f₂ .0;
-          of₂ = f₂ .1;
-          fails₂ = f₂ .2;
-        }
+  -- a witness from there is a state in which the action applies; and such a state is a witness
+  witness-starts : {Q : ℕ → Clause → Type 0} (w : Witness P Q 0 y) → (w .state < 2 ^ n) × T (applies a (w .state))
+  witness-starts w =
+      let g = agrees-before (Meets P) x y (w .state) (u .goes) (w .agrees) in
+      fails-start n hn a (w .state) (w .agrees .fits) (against (startClause n a) x (o .told) (w .state) g)
 
-    of-refutes : Refutes n a P (Q 0) (Q 1) → Witness P Q 0 y
-    of-refutes r =
-        record {
-          state = r .state;
-          agrees = u .goes .sound (r .state) (r .meets-left) (o .goes .sound (r .state) (start-fails n hn a (r .state) (r .low) (r .allowed)) (nothing-agrees (r .state) (omega (arith, r .low, pow-mono {i = n} {j = 64} hn))));
-          meets-left = r .meets-left;
-          fails = λ k l h. each k h;
-        }
-      where
-        each : (k : ℕ) → k < 2 → Fails (Q k) (r .state)
-        each zero l = (r .failed₁, r .of₁, r .fails₁)
-        each (suc zero) l = (r .failed₂, r .of₂, r .fails₂)
-        each (suc (suc k)) l = absurd (omega arith)
+  starts-agrees : (s : ℕ) → s < 2 ^ n → T (applies a s) → Meets P s → Agrees s y
+  starts-agrees s low allowed m =
+      u .goes .sound s m (o .goes .sound s (start-fails n hn a s low allowed)
+      (nothing-agrees s (omega (arith, low, pow-mono {i = n} {j = 64} hn))))
 
-    -- a candidate was found, and it is known whether it can be filled up
-    pub tells-worth : {t r : Bool} → Sought two t P Q 0 y → T t → Worth two P y r → Tells r (Refutes n a P (Q 0) (Q 1))
-    tells-worth k e w =
-        record {
-          finds = λ t. to-refutes (candidate-fills two P Q (w .fills t) (k .finds e));
-          sees = λ r. let v = of-refutes r in w .sees (v .state, v .agrees, v .meets-left);
-        }
+-- ---- what the search tells of the leaves
 
-    -- none was found
-    pub tells-none : {t : Bool} → Sought two t P Q 0 y → t ≡ false → Tells false (Refutes n a P (Q 0) (Q 1))
-    tells-none k e = tells-no (λ r. sought-not two P Q k e (of-refutes r))
+clausal-unlisted : (bytes : List ℕ) (two : Bool) (x : BasicEntry) → ClausalSet bytes two x → UnlistedSet x
+clausal-unlisted bytes two Empty h = tt
+clausal-unlisted bytes two Init h = tt
+clausal-unlisted bytes two Goal h = tt
+clausal-unlisted bytes two (Explicit x) h = absurd h
+clausal-unlisted bytes two (Horn x) h = tt
+clausal-unlisted bytes two (TwoCnf x) h = tt
+
+module _ (bytes left right : List ℕ) (k : Setting) (start : k .ends .init < 2 ^ 64) (forbidden : k .ends .goal < 2 ^ 64)
+    (hn : k .ends .facts ≤ 64) (add : k .action .add < 2 ^ k .ends .facts)
+    (usable : Usable bytes left (k .m) (k .two)) (pair : 2 ≤ length right) (unlisted : Each Unlisted (leavesIn right 2))
+    (x y : Assignment) (o : Opposed (startClause (k .ends .facts) (k .action)) nothing x)
+    (u : Solved (k .two) (LeftOf bytes left k) x y) where
+  -- the leaf holds the state that it is asked about
+  Holding : ℕ → Leaf → Type 0
+  Holding s x = T (leafHolds bytes (k .ends) (k .action) s x)
+
+  Failing : ℕ → Leaf → Type 0
+  Failing s x = T (not (leafHolds bytes (k .ends) (k .action) s x))
+
+  seen-low : (t : Bool) (s : ℕ) → s < 2 ^ k .ends .facts → seen t (k .action) s < 2 ^ 64
+  seen-low true s l = omega (arith, after-lt (k .ends .facts) (k .action) s l add, pow-mono {i = k .ends .facts} {j = 64} hn)
+  seen-low false s l = omega (arith, pow-mono {i = k .ends .facts} {j = 64} hn)
+
+  left-unlisted : (j : ℕ) → j < k .m → Unlisted (leafIn left j)
+  left-unlisted j l =
+      clausal-unlisted bytes (k .two) (leafIn left j .set) (each-at (Clausal bytes (k .two)) left (k .m) (usable .0) (usable .1) j l)
+
+  -- what the search tells of
+  abbrev Untrue : Type 0
+  Untrue = Countered bytes (k .ends) (k .action) (leavesIn left (k .m)) (leavesIn right 2)
+
+  to-countered : Witness (LeftOf bytes left k) (LeafOf bytes right k) 0 y → Untrue
+  unfolding Holding Failing
+  to-countered w =
+      let s = w .state in
+      let r = witness-starts (k .two) _ (k .ends .facts) hn (k .action) x y o u w in
+      record {
+        state = s;
+        low = r .0;
+        allowed = r .1;
+        holds = each-of (Holding s) left (k .m) (usable .0) (λ j l.
+            leaf-meets bytes (k .ends) start forbidden (k .action) _ (left-unlisted j l) s (seen-low (leafIn left j .after) s (r .0)) .1
+            (λ c p. w .meets-left c (j, l, p)));
+        fails = each-of (Failing s) right 2 pair (λ j l.
+            leaf-fails bytes (k .ends) start forbidden (k .action) _ (each-at Unlisted right 2 pair unlisted j l) s
+            (seen-low (leafIn right j .after) s (r .0)) .1
+            (w .fails j (omega arith) l));
+      }
+
+  of-countered : Untrue → Witness (LeftOf bytes left k) (LeafOf bytes right k) 0 y
+  unfolding Holding Failing
+  of-countered r =
+      let s = r .state in
+      let m : Meets (LeftOf bytes left k) s = (λ c (j, l, p).
+      leaf-meets bytes (k .ends) start forbidden (k .action) _ (left-unlisted j l) s (seen-low (leafIn left j .after) s (r .low)) .0
+      (each-at (Holding s) left (k .m) (usable .0) (r .holds) j l) c p) in
+      record {
+        state = s;
+        agrees = starts-agrees (k .two) _ (k .ends .facts) hn (k .action) x y o u s (r .low) (r .allowed) m;
+        meets-left = m;
+        fails = λ j _ l.
+            leaf-fails bytes (k .ends) start forbidden (k .action) _ (each-at Unlisted right 2 pair unlisted j l) s
+            (seen-low (leafIn right j .after) s (r .low)) .0
+            (each-at (Failing s) right 2 pair (r .fails) j l);
+      }
+
+  -- a candidate was found, and it is known whether it can be filled up
+  pub tells-worth : {t r : Bool} → Sought (k .two) t (LeftOf bytes left k) (LeafOf bytes right k) 0 y → T t
+      → Worth (k .two) (LeftOf bytes left k) y r → Tells r Untrue
+  tells-worth found e w =
+      record {
+        finds = λ t. to-countered (candidate-fills (k .two) _ _ (w .fills t) (found .finds e));
+        sees = λ r. let v = of-countered r in w .sees (v .state, v .agrees, v .meets-left);
+      }
+
+  -- none was found
+  pub tells-none : {t : Bool} → Sought (k .two) t (LeftOf bytes left k) (LeafOf bytes right k) 0 y → t ≡ false
+      → Tells false Untrue
+  tells-none found e = tells-no (λ r. sought-not (k .two) _ _ found e (of-countered r))
 
 -- ---- whether it is worth while
 
 pub worth-conflict : {two : Bool} {P : Clause → Type 0} {x : Assignment} → x .conflict ≡ true → Worth two P x false
 worth-conflict t = record { fills = λ e. absurd e; sees = λ q. true≢false (sym t ∙ q .1 .calm) }
 
-module _ (bytes : List ℕ) (init goal : ℕ) (a : Action) (leaves : List ℕ) (m : ℕ) where
-  pub worth-two : (two : Bool) {x : Assignment} {r : Bool} → two ≡ true → Usable bytes leaves m two → Tells r (Model (OfLeaves bytes init goal a leaves m) x) → Worth two (OfLeaves bytes init goal a leaves m) x r
-  worth-two true e u k = record { fills = λ e. let q = k .finds e in two-fillable _ (usable-shaped bytes init goal a leaves m true u) (q .0) (q .1 .fits) (q .2); sees = k .sees }
-  worth-two false e u k = absurd (true≢false (sym e))
+module _ (bytes leaves : List ℕ) (k : Setting) (u : Usable bytes leaves (k .m) (k .two)) (x : Assignment) where
+  pub worth-two : {r : Bool} → k .two ≡ true → Tells r (Model (LeftOf bytes leaves k) x) → Worth (k .two) (LeftOf bytes leaves k) x r
+  worth-two {r} e t =
+      record {
+        fills = λ h. let q = t .finds h in fillable (k .two) e (usable-shaped bytes leaves k u) (q .0) (q .1 .fits) (q .2);
+        sees = t .sees;
+      }
+    where
+      fillable : (two : Bool) → two ≡ true → {P : Clause → Type 0} → ((c : Clause) → P c → Shaped two c) → (s : ℕ) → s < 2 ^ 64
+          → Meets P s → Fillable two P
+      fillable true e {P} h = two-fillable P h
+      fillable false e h = absurd (true≢false (sym e))
 
-  pub worth-horn : (two : Bool) {x : Assignment} → two ≡ false → Usable bytes leaves m two → Worth two (OfLeaves bytes init goal a leaves m) x true
-  worth-horn true e u = absurd (true≢false e)
-  worth-horn false e u = record { fills = λ e. horn-fillable _ (usable-shaped bytes init goal a leaves m false u); sees = λ q. tt }
+  pub worth-horn : k .two ≡ false → Worth (k .two) (LeftOf bytes leaves k) x true
+  worth-horn e = record { fills = λ h. fillable (k .two) e (usable-shaped bytes leaves k u); sees = λ q. tt }
+    where
+      fillable : (two : Bool) → two ≡ false → {P : Clause → Type 0} → ((c : Clause) → P c → Shaped two c) → Fillable two P
+      fillable true e h = absurd (true≢false e)
+      fillable false e {P} h = horn-fillable P h

@@ -1,8 +1,12 @@
 // Clause statements for one action: the search for a state in which it applies, that meets every left clause and fails a
 // clause of each right leaf.
+use certificate::BasicEntry;
+use certificate::Span;
+use leaves::leaf_at;
 use meaning::Clause;
 use propagation::Assignment;
-use propagation::Case;
+use propagation::Setting;
+use propagation::Words;
 use propagation::alike;
 use propagation::clause_at;
 use propagation::clause_count;
@@ -10,15 +14,23 @@ use propagation::effect_of;
 use propagation::fact;
 use propagation::pulled;
 use propagation::solve;
+use propagation::words_of;
 use task::Action;
+use task::Ends;
+use task::all_facts;
 use words::next_hit;
 ghost use mathlib.Core.Path.{_≡_};
 ghost use mathlib.Core.Bool.{true, false};
-ghost use Prim.Native.Nat.{_+_, _-_, _*_, _<_, _≤_, _^_};
+ghost use Prim.Native.Nat.{_+_, _*_, _<_, _≤_, _^_};
 ghost use lib.ListN.{length};
 ghost use lib.Dec.{T};
-ghost use Rattle.propagation.specs.Clauses.{OfLeaf, OfLeaves, Refutes};
-ghost use Rattle.propagation.specs.Propagation.{LeafOf, LeftOf, Tells, Settled, Opposed, Assumed, Decided, Ready, Model, Worth, Sought, Roomy, Before, Opens, Usable};
+ghost use Rattle.words.specs.Words.{wordsAt};
+ghost use Rattle.certificate.specs.declared.BasicEntry.the-variants.{Horn, TwoCnf};
+ghost use Rattle.leaves.specs.Leaves.{leavesIn};
+ghost use Rattle.leaves.specs.Lists.{Each, Countered};
+ghost use Rattle.propagation.specs.Clauses.{clauseCount, Inside, LeafOf, LeftOf, Unlisted, Clausal, Usable};
+ghost use Rattle.propagation.specs.Propagation.{Tells, Settled, Opposed, Assumed, Fixed, Ready, Model, Worth, Sought};
+ghost use Rattle.propagation.specs.Propagation.{Before, PassedOver, Opens};
 
 // The clause is taken to fail: its positive facts are off, its negative ones on. One that is met already is a conflict.
 fn opposite(x: Assignment, c: Clause) -> Assignment
@@ -34,8 +46,8 @@ fn opposite(x: Assignment, c: Clause) -> Assignment
 }
 
 // The clause is taken to fail, and the left leaves are settled again where that says anything new.
-fn assume(file: &[u8], left: &[u32], k: Case, x: Assignment, c: Clause) -> Assignment
-    requires { ⌜ Roomy (now file) (now left) (k .m) × Settled (k .two) (LeftOf (now file) (now left) k) x ⌝ }
+fn assume(file: &[u8], left: &[u64], k: Setting, x: Assignment, c: Clause) -> Assignment
+    requires { ⌜ Usable (now file) (now left) (k .m) (k .two) × Settled (k .two) (LeftOf (now file) (now left) k) x ⌝ }
     ensures { λ r. ⌜ Assumed (k .two) (LeftOf (now (file .entry)) (now (left .entry)) k) c x r ⌝ }
 {
     let y = opposite(x, c);
@@ -51,9 +63,9 @@ fn assume(file: &[u8], left: &[u32], k: Case, x: Assignment, c: Clause) -> Assig
 // ---- the search
 
 // Fact i is told off where the left leaves can be settled so, else on. A fact that is known stays as it is.
-fn decide(file: &[u8], left: &[u32], k: Case, x: Assignment, i: u32) -> Assignment
-    requires { ⌜ (i < 64) × Roomy (now file) (now left) (k .m) × Settled (k .two) (LeftOf (now file) (now left) k) x ⌝ }
-    ensures { λ r. ⌜ Decided (k .two) (LeftOf (now (file .entry)) (now (left .entry)) k) i x r ⌝ }
+fn tell(file: &[u8], left: &[u64], k: Setting, x: Assignment, i: u32) -> Assignment
+    requires { ⌜ (i < 64) × Usable (now file) (now left) (k .m) (k .two) × Settled (k .two) (LeftOf (now file) (now left) k) x ⌝ }
+    ensures { λ r. ⌜ Fixed (k .two) (LeftOf (now (file .entry)) (now (left .entry)) k) i x r ⌝ }
 {
     if ((x.on | x.off) >> i) % 2 == 1 {
         return x;
@@ -75,7 +87,7 @@ fn decide(file: &[u8], left: &[u32], k: Case, x: Assignment, i: u32) -> Assignme
 }
 
 // Whether a state that agrees with a settled assignment meets the left leaves, which are two-literal.
-fn satisfiable(file: &[u8], left: &[u32], k: Case, start: Assignment) -> bool
+fn satisfiable(file: &[u8], left: &[u64], k: Setting, start: Assignment) -> bool
     requires { ⌜ (k .two ≡ true) × Usable (now file) (now left) (k .m) (k .two) ⌝ }
     requires { ⌜ (start .conflict ≡ false) × Ready (k .two) (LeftOf (now file) (now left) k) start ⌝ }
     ensures { λ r. ⌜ Tells r (Model (LeftOf (now (file .entry)) (now (left .entry)) k) start) ⌝ }
@@ -83,7 +95,7 @@ fn satisfiable(file: &[u8], left: &[u32], k: Case, start: Assignment) -> bool
     let mut x = start;
     let mut i = 0u32;
     while i < 64 {
-        x = decide(file, left, k, x, i);
+        x = tell(file, left, k, x, i);
         if x.conflict {
             return false;
         }
@@ -94,7 +106,7 @@ fn satisfiable(file: &[u8], left: &[u32], k: Case, start: Assignment) -> bool
 
 // Whether what the search finds can be filled up to a state: false only where no state agrees with the settled assignment and
 // meets the left leaves.
-fn worth(file: &[u8], left: &[u32], k: Case, x: Assignment) -> bool
+fn worth(file: &[u8], left: &[u64], k: Setting, x: Assignment) -> bool
     requires { ⌜ Usable (now file) (now left) (k .m) (k .two) × Ready (k .two) (LeftOf (now file) (now left) k) x ⌝ }
     ensures { λ r. ⌜ Worth (k .two) (LeftOf (now (file .entry)) (now (left .entry)) k) x r ⌝ }
 {
@@ -107,18 +119,55 @@ fn worth(file: &[u8], left: &[u32], k: Case, x: Assignment) -> bool
     true
 }
 
-// Whether a leaf of clauses in the file with these numbers is among the left leaves, asked about the state before the action.
-fn is_before(left: &[u32], m: usize, kind: u32, at: u32, count: u32) -> bool
-    requires { ⌜ 4 * m ≤ length (now left) ⌝ }
-    ensures { λ r. ⌜ (T r → (3 ≤ kind) × Before (now (left .entry)) m kind at count) ⌝ }
+// ---- right clauses that are left clauses too
+
+// Whether a set is these Horn clauses.
+fn is_horn(set: BasicEntry, s: Span) -> bool
+    ensures { λ r. ⌜ (T r → Horn s ≡ set) ⌝ }
 {
-    if kind < 3 {
+    let BasicEntry::Horn(t) = set else {
         return false;
+    };
+    (s.at == t.at) & (s.count == t.count)
+}
+
+// Whether a set is these two-literal clauses.
+fn is_two_cnf(set: BasicEntry, s: Span) -> bool
+    ensures { λ r. ⌜ (T r → TwoCnf s ≡ set) ⌝ }
+{
+    let BasicEntry::TwoCnf(t) = set else {
+        return false;
+    };
+    (s.at == t.at) & (s.count == t.count)
+}
+
+// Whether two sets are the same clauses of the file.
+fn same_words(a: BasicEntry, b: BasicEntry) -> bool
+    ensures { λ r. ⌜ (T r → a ≡ b) ⌝ }
+{
+    match a {
+        BasicEntry::Empty => false,
+        BasicEntry::Init => false,
+        BasicEntry::Goal => false,
+        BasicEntry::Explicit(_) => false,
+        BasicEntry::Horn(s) => is_horn(b, s),
+        BasicEntry::TwoCnf(s) => is_two_cnf(b, s),
     }
+}
+
+// Whether these clauses of the file are among the left leaves, asked about the state before the action.
+fn is_before(left: &[u64], m: usize, set: BasicEntry) -> bool
+    requires { ⌜ m ≤ length (now left) ⌝ }
+    ensures { λ r. ⌜ (T r → Before (now (left .entry)) m set) ⌝ }
+{
+    let Words::At(_) = words_of(set) else {
+        return false;
+    };
     let mut j = 0;
     while j < m {
-        let i = 4 * j;
-        if (left[i] == kind) & (left[i + 1] == at) & (left[i + 2] == count) & (left[i + 3] != 1) {
+        let x = leaf_at(left, j);
+        let other = x.set;
+        if same_words(other, set) & !x.after {
             return true;
         }
         j += 1;
@@ -126,21 +175,34 @@ fn is_before(left: &[u32], m: usize, kind: u32, at: u32, count: u32) -> bool
     false
 }
 
-// The next clause from i on that can fail, of so many in the file. Where each is a left clause too (`before`), those that the
-// action leaves as they are cannot, and are passed over.
-fn next_open(file: &[u8], at: u32, count: u32, i: u32, before: bool, changed: u64) -> u32
-    requires { ⌜ (i ≤ count) × (before ≡ true → at + 16 * count ≤ length (now file)) ⌝ }
-    ensures { λ r. ⌜ Opens (now (file .entry)) at count i before changed r ⌝ }
+// The next clause of a span from i on that can fail. Where each is a left clause too (`before`), those that the action leaves as
+// they are cannot, and are passed over.
+fn next_word(file: &[u8], s: Span, i: u32, before: bool, changed: u64) -> u32
+    requires { ⌜ (i ≤ s .count) × (before ≡ true → s .at + 16 * s .count ≤ length (now file)) ⌝ }
+    ensures { λ r. ⌜ (i ≤ r) × (r ≤ s .count) × PassedOver (wordsAt (now (file .entry)) (s .at)) i before changed r ⌝ }
 {
     if before {
-        return next_hit(file, at, count, i, true, changed, changed);
+        return next_hit(file, s.at, s.count as u32, i, true, changed, changed);
     }
     i
 }
 
+// The same of a set's clauses: those that do not stand in the file are not passed over.
+fn next_open(file: &[u8], set: BasicEntry, i: u32, before: bool, changed: u64) -> u32
+    requires { ⌜ (i ≤ clauseCount set) × (before ≡ true → Inside (now file) set) ⌝ }
+    ensures { λ r. ⌜ Opens (now (file .entry)) set i before changed r ⌝ }
+{
+    match words_of(set) {
+        Words::At(s) => next_word(file, s, i, before, changed),
+        Words::Absent => i,
+    }
+}
+
+// ---- the right leaves
+
 // Whether x can be settled with a clause of each right leaf from j to 1 taken to fail. A clause that x meets cannot fail.
-fn seek(file: &[u8], left: &[u32], right: &[u32], k: Case, j: usize, x: Assignment) -> bool
-    requires { ⌜ Roomy (now file) (now left) (k .m) × (8 ≤ length (now right)) × (j ≤ 2) ⌝ }
+fn seek(file: &[u8], left: &[u64], right: &[u64], k: Setting, j: usize, x: Assignment) -> bool
+    requires { ⌜ Usable (now file) (now left) (k .m) (k .two) × (2 ≤ length (now right)) × (j ≤ 2) ⌝ }
     requires { ⌜ Ready (k .two) (LeftOf (now file) (now left) k) x ⌝ }
     ensures { λ r. ⌜ Sought (k .two) r (LeftOf (now (file .entry)) (now (left .entry)) k) (LeafOf (now (file .entry)) (now (right .entry)) k) j x ⌝ }
 {
@@ -150,21 +212,18 @@ fn seek(file: &[u8], left: &[u32], right: &[u32], k: Case, j: usize, x: Assignme
     if j == 2 {
         return true;
     }
-    let kind = right[4 * j];
-    let at = right[4 * j + 1];
-    let count = right[4 * j + 2];
-    let many = clause_count(kind, count);
-    let by = effect_of(k.action, right[4 * j + 3] == 1);
-    let before = is_before(left, k.m, kind, at, count);
-    let init = k.init;
-    let goal = k.goal;
+    let leaf = leaf_at(right, j);
+    let set = leaf.set;
+    let many = clause_count(set);
+    let by = effect_of(k.action, leaf.after);
+    let before = is_before(left, k.m, set);
     let mut i = 0u32;
     while i < many {
-        let o = next_open(file, at, many, i, before, by.changed);
+        let o = next_open(file, set, i, before, by.changed);
         if o == many {
             return false;
         }
-        let c = pulled(by, clause_at(file, init, goal, kind, at, o));
+        let c = pulled(by, clause_at(file, k.ends, set, o));
         i = o + 1;
         let z = opposite(x, c);
         if z.conflict {
@@ -178,36 +237,23 @@ fn seek(file: &[u8], left: &[u32], right: &[u32], k: Case, j: usize, x: Assignme
     false
 }
 
-// The mask of the facts from `facts` on.
-fn high(facts: u8) -> u64
-    requires { ⌜ facts ≤ 64 ⌝ }
-    ensures { λ r. ⌜ r ≡ 2 ^ 64 - 2 ^ facts ⌝ }
-{
-    if facts == 64 {
-        return 0;
-    }
-    !(fact(facts as u32) - 1)
-}
-
-// Whether a state of so many facts in which the action applies meets the m left leaves and fails a clause of each of the two
-// right leaves. The left leaves are Horn, or two-literal where `two` says so.
+// Whether a state of the task's facts in which the action applies is held by the m left leaves and by neither of the two right
+// leaves. The left leaves are Horn, or two-literal where `two` says so.
 pub fn refuted(
     file: &[u8],
-    facts: u8,
-    init: u64,
-    goal: u64,
-    left: &[u32],
+    ends: Ends,
+    left: &[u64],
     m: usize,
-    right: &[u32],
+    right: &[u64],
     two: bool,
     a: Action,
 ) -> bool
-    requires { ⌜ (facts ≤ 64) × (8 ≤ length (now right)) × Usable (now file) (now left) m two ⌝ }
-    ensures { λ r. ⌜ Tells r (Refutes facts a (OfLeaves (now (file .entry)) init goal a (now (left .entry)) m) (OfLeaf (now (file .entry)) init goal a (now (right .entry)) 0) (OfLeaf (now (file .entry)) init goal a (now (right .entry)) 1)) ⌝ }
+    requires { ⌜ (ends .facts ≤ 64) × (a .add < 2 ^ ends .facts) ⌝ }
+    requires { ⌜ (m ≤ length (now left)) × (2 ≤ length (now right)) × Each (Clausal (now file) two) (leavesIn (now left) m) × Each Unlisted (leavesIn (now right) 2) ⌝ }
+    ensures { λ r. ⌜ Tells r (Countered (now (file .entry)) ends a (leavesIn (now (left .entry)) m) (leavesIn (now (right .entry)) 2)) ⌝ }
 {
-    let k = Case {
-        init,
-        goal,
+    let k = Setting {
+        ends,
         m,
         two,
         action: a,
@@ -218,7 +264,7 @@ pub fn refuted(
         conflict: false,
     };
     let start = Clause {
-        positive: high(facts),
+        positive: !all_facts(ends.facts),
         negative: a.pre,
     };
     let y = solve(file, left, k, true, nothing, opposite(nothing, start));

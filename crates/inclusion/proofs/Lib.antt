@@ -1,12 +1,7 @@
-pub mod Reduced
+pub mod Gathered
+pub mod Ready
+pub mod RightTwo
+pub mod CounterLaws
 pub mod RuleTruth
-pub mod FlatHolds
-pub mod FlatClauses
-pub mod FlatAsked
-pub mod FlatListed
-pub mod FlatRefutes
-pub mod FlatFits
-pub mod FlatGathered
-pub mod FlatReady
 pub mod TryLaws
 pub mod VerdictLaws

@@ -13,10 +13,9 @@ use Rattle.meaning.specs.File.{File}
 use Rattle.meaning.proofs.Order.{Ordered}
 use Rattle.meaning.specs.Sets.{statesWithin}
 use Rattle.meaning.specs.Shapes.{keep, kindAt, leaves, shapeWith, shape₂, shape₃}
-use Rattle.trees.specs.Counter.{Leaf, Counter}
-use Rattle.trees.specs.Flat.{notEmpty}
-use Rattle.shapes.specs.Gathered.{bracketLeaf, bracketSides, shapeOf, sidesOf, throughOf, actionsOfRule, leftOf, rightOf, Acts}
-use Rattle.inclusion.proofs.Reduced.{truth-1, truth-2, truth-3, truth-4}
+use Rattle.counterexample.specs.Counter.{Asked, Counter}
+use Rattle.shapes.specs.Gathered.{notEmpty, bracketLeaf, bracketSides, shapeOf, sidesOf, afterOf, actionsOfRule, leftOf, rightOf, Acts}
+use Rattle.counterexample.proofs.Reduced.{truth-1, truth-2, truth-3, truth-4}
 use Rattle.shapes.proofs.Filled.{drop-empty}
 use Rattle.shapes.proofs.LeafKinds.{the-only}
 
@@ -36,23 +35,24 @@ the-bracket f k anchors a b t =
 
 module _ (f : File) (o : Ordered f) (w : Bounded (f .task)) where
   -- right leaves of kind 0 are left out
-  filled : (acts : Action → Type 0) (left right : List Leaf) → (Counter f acts left right → ⊥) ↔ (Counter f acts left (notEmpty f right) → ⊥)
+  filled : (acts : Action → Type 0) (left right : List Asked)
+      → (Counter f acts left right → ⊥) ↔ (Counter f acts left (notEmpty f right) → ⊥)
   filled acts left right = iff-not (let e = drop-empty f o acts left right in (e .1, e .0))
 
   true-1 : (a b : ℕ) → T (statesWithin f a b) ↔ NoCounterOf f 1 a b
-  unfolding leftOf rightOf sidesOf throughOf
+  unfolding leftOf rightOf sidesOf afterOf
   true-1 a b = Iff·trans (truth-1 f o a b) (filled _ _ _)
 
   true-2 : (a b : ℕ) → T (shape₂ f a b) → T (statesWithin f a b) ↔ NoCounterOf f 2 a b
-  unfolding leftOf rightOf sidesOf throughOf bracketSides actionsOfRule shape₂
+  unfolding leftOf rightOf sidesOf afterOf bracketSides actionsOfRule shape₂
   true-2 a b t = Iff·trans (truth-2 f o w a b (bracketLeaf f 9 a) (the-bracket f 9 _ a b t)) (filled _ _ _)
 
   true-3 : (a b : ℕ) → T (shape₃ f a b) → T (statesWithin f a b) ↔ NoCounterOf f 3 a b
-  unfolding leftOf rightOf sidesOf throughOf bracketSides actionsOfRule shape₃
+  unfolding leftOf rightOf sidesOf afterOf bracketSides actionsOfRule shape₃
   true-3 a b t = Iff·trans (truth-3 f o w a b (bracketLeaf f 10 a) (the-bracket f 10 _ a b t)) (filled _ _ _)
 
   true-4 : (a b : ℕ) → T (statesWithin f a b) ↔ NoCounterOf f 4 a b
-  unfolding leftOf rightOf sidesOf throughOf
+  unfolding leftOf rightOf sidesOf afterOf
   true-4 a b = Iff·trans (truth-4 f o a b) (filled _ _ _)
 
   pub rule-truth : (rule a b : ℕ) → 1 ≤ rule → rule ≤ 4 → T (shapeOf f rule a b) → T (statesWithin f a b) ↔ NoCounterOf f rule a b

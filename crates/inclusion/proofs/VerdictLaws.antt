@@ -6,75 +6,28 @@ use Prim.Native.Nat.{ℕ, zero, suc, _≤_, _<_}
 use native.Mathlib.Omega.{arith}
 use mathlib.Core.Bool.{Bool, true, false, not}
 use mathlib.Core.List.{List}
+use lib.ListN.{length}
 use lib.Dec.{T, eqb, eqb→eq}
-use Rattle.task.specs.declared.Action.{Action}
 use Rattle.task.specs.Reach.{every}
 use Rattle.task.proofs.Tests.{and-left}
 use Rattle.task.proofs.Moves.{Bounded}
-use Rattle.certificate.specs.declared.Places.{Places}
-use Rattle.meaning.specs.File.{File, Basic, empty, init, goal, explicit, horn, twoCnf, StateSet, basic, complement, intersection, union, progression, regression, stateSetAt, stateKind, basicKind, second}
-use Rattle.certificate.specs.Known.{Known, decoded}
+use Rattle.meaning.specs.File.{File, Basic, empty, init, goal, explicit, horn, twoCnf, StateSet}
+use Rattle.meaning.specs.File.{basic, complement, intersection, union, progression, regression, stateSetAt, stateKind, basicKind, second}
+use Rattle.certificate.specs.Known.{decoded, IsRead}
 use Rattle.meaning.specs.Writing.{FitsStateSet}
 use Rattle.meaning.proofs.Order.{Ordered, state-set-fits}
-use Rattle.certificate.proofs.KnownLaws.{known-read, known-action-sets}
+use Rattle.certificate.proofs.KnownLaws.{read-file}
 use Rattle.inclusion.specs.declared.Verdict.{Verdict}
 use Rattle.inclusion.specs.declared.Verdict.the-variants.{Holds, Untrue, NotPermitted}
 use Rattle.meaning.specs.Sets.{statesWithin, actionsWithin}
 use Rattle.meaning.specs.Shapes.{kindAt, leaves, shape₁, shapeWith, shape₂, shape₃, shape₄}
-use Rattle.task.specs.Inner.{noAction}
-use Rattle.trees.specs.Counter.{Leaf, Counter, ActionsOf, Refuted, SomeRefuted}
+use Rattle.counterexample.specs.Counter.{Counter}
 use Rattle.shapes.specs.Gathered.{shapeOf, bracketLeaf, actionsOfRule, leftOf, rightOf, Acts}
 use Rattle.meaning.specs.Statements.{statements}
+use Rattle.inclusion.specs.Search.{hasBracket}
 use Rattle.inclusion.specs.Verdict.{verdictBut, verdictBy, verdictOr, verdictOf}
-use Rattle.trees.proofs.Lists.{kept-passes}
+use Rattle.counterexample.proofs.Lists.{kept-passes}
 use Rattle.inclusion.proofs.RuleTruth.{rule-truth, the-bracket}
-
--- ---- a counterexample by its action
-
-pub some-counter : (f : File) (x : ℕ) (left right : List Leaf) → SomeRefuted f x left right ↔ Counter f (ActionsOf f x) left right
-some-counter f x left right = (
-  (λ (a, c, w). record { action = a; chosen = c; state = w .0; low = w .1; allowed = w .2; holds = w .3; fails = w .4 }),
-  (λ c. (c .action, c .chosen, (c .state, c .low, c .allowed, c .holds, c .fails))),
-)
-
-pub one-counter : (f : File) (left right : List Leaf) → Refuted f noAction left right ↔ Counter f (λ c. c ≡ noAction) left right
-one-counter f left right = (
-  (λ (s, l, p, h, n). record { action = noAction; chosen = refl; state = s; low = l; allowed = p; holds = h; fails = n }),
-  (λ c. subst (λ (a : Action). Refuted f a left right) (c .chosen) (c .state, c .low, c .allowed, c .holds, c .fails)),
-)
-
--- the actions of a rule with a bracket, and of one without
-pub with-bracket : (f : File) (rule a : ℕ) → 2 ≤ rule → rule ≤ 3 → Acts f rule a ≡ ActionsOf f (actionsOfRule f rule a)
-with-bracket f zero a l h = absurd (omega arith)
-with-bracket f (suc zero) a l h = absurd (omega arith)
-with-bracket f (suc (suc zero)) a l h = refl
-with-bracket f (suc (suc (suc zero))) a l h = refl
-with-bracket f (suc (suc (suc (suc k)))) a l h = absurd (omega arith)
-
-pub below-bracket : (f : File) (rule a : ℕ) → rule < 2 → Acts f rule a ≡ (λ c. c ≡ noAction)
-below-bracket f zero a h = refl
-below-bracket f (suc zero) a h = refl
-below-bracket f (suc (suc k)) a h = absurd (omega arith)
-
-pub above-bracket : (f : File) (rule a : ℕ) → 3 < rule → Acts f rule a ≡ (λ c. c ≡ noAction)
-above-bracket f zero a h = absurd (omega arith)
-above-bracket f (suc zero) a h = absurd (omega arith)
-above-bracket f (suc (suc zero)) a h = absurd (omega arith)
-above-bracket f (suc (suc (suc zero))) a h = absurd (omega arith)
-above-bracket f (suc (suc (suc (suc k)))) a h = refl
-
-module _ (f : File) (rule a b : ℕ) (r : Bool) where
-  pub countered-one : Acts f rule a ≡ (λ c. c ≡ noAction) → T r ↔ Refuted f noAction (leftOf f rule a b) (rightOf f rule a b)
-      → T r ↔ Counter f (Acts f rule a) (leftOf f rule a b) (rightOf f rule a b)
-  countered-one e w =
-      subst (λ (acts : Action → Type 0). T r ↔ Counter f acts (leftOf f rule a b) (rightOf f rule a b)) (sym e)
-      (Iff·trans w (one-counter f (leftOf f rule a b) (rightOf f rule a b)))
-
-  pub countered-some : 2 ≤ rule → rule ≤ 3 → (x : ℕ) → x ≡ actionsOfRule f rule a → T r ↔ SomeRefuted f x (leftOf f rule a b) (rightOf f rule a b)
-      → T r ↔ Counter f (Acts f rule a) (leftOf f rule a b) (rightOf f rule a b)
-  countered-some l h x e w =
-      subst (λ (acts : Action → Type 0). T r ↔ Counter f acts (leftOf f rule a b) (rightOf f rule a b)) (ap (ActionsOf f) e ∙ sym (with-bracket f rule a l h))
-      (Iff·trans w (some-counter f x (leftOf f rule a b) (rightOf f rule a b)))
 
 -- ---- the verdict
 
@@ -119,11 +72,13 @@ pub verdict-refused : (f : File) (rule a b : ℕ) → 1 ≤ rule → rule ≤ 4 
 unfolding picked
 verdict-refused f rule a b l h e = sym (verdict-picked f rule a b l h ∙ ap (λ (x : Bool). picked x (statesWithin f a b)) e)
 
-pub verdict-decided : (f : File) → Ordered f → Bounded (f .task) → (rule a b : ℕ) → 1 ≤ rule → rule ≤ 4 → shapeOf f rule a b ≡ true → (u : Bool)
+pub verdict-decided : (f : File) → Ordered f → Bounded (f .task) → (rule a b : ℕ) → 1 ≤ rule → rule ≤ 4 → shapeOf f rule a b ≡ true
+    → (u : Bool)
     → T u ↔ Counter f (Acts f rule a) (leftOf f rule a b) (rightOf f rule a b) → verdictBut u ≡ verdictOf f rule a b
 verdict-decided f o w rule a b l h e u c =
     let t : T (shapeOf f rule a b) = subst T (sym e) tt in
-    by-truth (shapeOf f rule a b) (statesWithin f a b) u t (Iff·trans (rule-truth f o w rule a b l h t) ((λ n z. n (c .0 z)), (λ n z. n (c .1 z))))
+    by-truth (shapeOf f rule a b) (statesWithin f a b) u t
+    (Iff·trans (rule-truth f o w rule a b l h t) ((λ n z. n (c .0 z)), (λ n z. n (c .1 z))))
     ∙ sym (verdict-picked f rule a b l h)
 
 -- ---- the action set of a bracket is in the file
@@ -147,23 +102,27 @@ second-fits n m i (union a b) k l t h = absurd (let q = eqb→eq 8 k t in omega 
 second-fits n m i (basic b) k l t h = absurd (let q = eqb→eq (basicKind b) k t in let s = basic-small b in omega arith)
 
 -- the action set of a permitted statement with a bracket
-module _ (bytes : List ℕ) (at : Places) (index : List ℕ) (k : Known bytes at index) (a b : ℕ) where
-  bracket-kind : (n : ℕ) (anchors : _) → T (shapeWith (decoded bytes) n anchors a b) → T (eqb (stateKind (stateSetAt (decoded bytes) (bracketLeaf (decoded bytes) n a))) n)
+module _ (bytes : List ℕ) (k : IsRead bytes) (a b : ℕ) where
+  abbrev f : File
+  f = decoded bytes
+
+  bracket-kind : (n : ℕ) (anchors : _) → T (shapeWith f n anchors a b) → T (eqb (stateKind (stateSetAt f (bracketLeaf f n a))) n)
   unfolding kindAt every
   bracket-kind n anchors t =
-      and-left (eqb (kindAt (decoded bytes) (bracketLeaf (decoded bytes) n a)) n) true (subst (λ (xs : List ℕ). T (every (λ e. eqb (kindAt (decoded bytes) e) n) xs)) (the-bracket (decoded bytes) n anchors a b t)
-      (kept-passes (λ e. eqb (kindAt (decoded bytes) e) n) (leaves (decoded bytes) 7 a)))
+      and-left (eqb (kindAt f (bracketLeaf f n a)) n) true
+      (subst (λ (xs : List ℕ). T (every (λ e. eqb (kindAt f e) n) xs)) (the-bracket f n anchors a b t)
+      (kept-passes (λ e. eqb (kindAt f e) n) (leaves f 7 a)))
 
-  in-file : (n : ℕ) (anchors : _) → 9 ≤ n → T (shapeWith (decoded bytes) n anchors a b)
-      → second (stateSetAt (decoded bytes) (bracketLeaf (decoded bytes) n a)) < at .«action_sets»
+  in-file : (n : ℕ) (anchors : _) → 9 ≤ n → T (shapeWith f n anchors a b)
+      → second (stateSetAt f (bracketLeaf f n a)) < length (f .actionSets)
   in-file n anchors l t =
-      subst (λ (m : ℕ). second (stateSetAt (decoded bytes) (bracketLeaf (decoded bytes) n a)) < m) (sym (known-action-sets bytes at index k))
-      (second-fits _ _ _ (stateSetAt (decoded bytes) (bracketLeaf (decoded bytes) n a)) n l (bracket-kind n anchors t) (state-set-fits bytes (decoded bytes) (known-read bytes at index k) (bracketLeaf (decoded bytes) n a)))
+      second-fits _ _ _ (stateSetAt f (bracketLeaf f n a)) n l (bracket-kind n anchors t)
+      (state-set-fits bytes f (read-file bytes k) (bracketLeaf f n a))
 
-  pub actions-in-file : (rule : ℕ) → 2 ≤ rule → rule ≤ 3 → shapeOf (decoded bytes) rule a b ≡ true → actionsOfRule (decoded bytes) rule a < at .«action_sets»
-  unfolding shapeOf actionsOfRule shape₂ shape₃
-  actions-in-file zero l h e = absurd (omega arith)
-  actions-in-file (suc zero) l h e = absurd (omega arith)
-  actions-in-file (suc (suc zero)) l h e = in-file 9 _ (omega arith) (subst T (sym e) tt)
-  actions-in-file (suc (suc (suc zero))) l h e = in-file 10 _ (omega arith) (subst T (sym e) tt)
-  actions-in-file (suc (suc (suc (suc n)))) l h e = absurd (omega arith)
+  pub actions-in-file : (rule : ℕ) → hasBracket rule ≡ true → shapeOf f rule a b ≡ true → actionsOfRule f rule a < length (f .actionSets)
+  unfolding shapeOf actionsOfRule shape₂ shape₃ hasBracket
+  actions-in-file zero h e = absurd (subst T (sym h) tt)
+  actions-in-file (suc zero) h e = absurd (subst T (sym h) tt)
+  actions-in-file (suc (suc zero)) h e = in-file 9 _ (omega arith) (subst T (sym e) tt)
+  actions-in-file (suc (suc (suc zero))) h e = in-file 10 _ (omega arith) (subst T (sym e) tt)
+  actions-in-file (suc (suc (suc (suc n)))) h e = absurd (subst T (sym h) tt)

@@ -2,21 +2,26 @@
 use actions::action_marks;
 use actions::actions_within;
 use actions::marks::is_marked;
-use certificate::Places;
-use certificate::known::action;
+use certificate::Index;
+use certificate::lookup::action;
+use certificate::lookup::action_count;
 use clauses::refuted;
 use listed::shown;
 use shapes::shape::Gathered;
 use shapes::shape::gather;
 use task::Action;
+use task::Ends;
 ghost use mathlib.Core.Path.{_≡_};
 ghost use mathlib.Core.Logic.{_↔_};
+ghost use mathlib.Core.Bool.{true};
 ghost use Prim.Native.Nat.{_≤_, _<_, _^_};
 ghost use lib.Dec.{T};
-ghost use Rattle.task.specs.declared.Action.{Action};
+ghost use lib.ListN.{length};
+ghost use Rattle.task.specs.Inner.{endsOf};
 ghost use Rattle.certificate.specs.Known.{Known, decoded};
-ghost use Rattle.trees.specs.Counter.{Refuted, SomeRefuted, Counter};
-ghost use Rattle.shapes.specs.Gathered.{Gathers, leftOf, rightOf, Acts};
+ghost use Rattle.leaves.specs.Leaves.{leavesIn};
+ghost use Rattle.leaves.specs.Lists.{Countered};
+ghost use Rattle.inclusion.specs.Search.{Searchable, SomeCountered, hasBracket, ByRule};
 ghost use Rattle.inclusion.specs.Verdict.{verdictOf, verdictBut};
 
 // What is found of a basic statement. Document 01 replies 11 to what is untrue and 10 to a shape that is not permitted.
@@ -26,57 +31,49 @@ pub enum Verdict {
     NotPermitted,
 }
 
-// Whether an action shows the gathered statement of a rule at entries e and d to be untrue.
+// Whether an action makes a statement with these leaves untrue.
 fn one_refutes(
     file: &[u8],
-    at: Places,
-    index: &[u16; 768],
-    rule: u8,
-    e: u16,
-    d: u16,
-    left: &[u32; 96],
-    right: &[u32; 64],
+    ends: Ends,
+    left: &[u64; 24],
+    right: &[u64; 16],
     g: Gathered,
     a: Action,
 ) -> bool
-    requires { ⌜ Known (now file) at (now index) ⌝ }
-    requires { ⌜ Gathers (decoded (now file)) (now index) rule e d (now left) (now right) g ⌝ }
-    requires { ⌜ a .add < 2 ^ decoded (now file) .task .facts ⌝ }
-    ensures { λ r. ⌜ T r ↔ Refuted (decoded (now (file .entry))) a (leftOf (decoded (now (file .entry))) rule e d) (rightOf (decoded (now (file .entry))) rule e d) ⌝ }
+    requires { ⌜ Searchable (now file) ends (now left) (now right) g ⌝ }
+    requires { ⌜ a .add < 2 ^ ends .facts ⌝ }
+    ensures { λ r. ⌜ T r ↔ Countered (now (file .entry)) ends a (leavesIn (now (left .entry)) (g .«left_count»)) (leavesIn (now (right .entry)) (g .«right_count»)) ⌝ }
 {
     let m = g.left_count as usize;
-    let r = g.right_count as usize;
-    let anchor = g.anchor as usize;
     if g.listed {
-        return shown(file, at.init, at.goal, left, m, right, r, anchor, a);
+        let r = g.right_count as usize;
+        let anchor = g.anchor as usize;
+        return shown(file, ends, left, m, right, r, anchor, a);
     }
-    refuted(file, at.facts, at.init, at.goal, left, m, right, g.two, a)
+    refuted(file, ends, left, m, right, g.two, a)
 }
 
-// Whether some action of the gathered action set does.
+// Whether some action of the statement's action set does.
 fn some_refutes(
     file: &[u8],
-    at: Places,
-    index: &[u16; 768],
-    rule: u8,
-    e: u16,
-    d: u16,
-    left: &[u32; 96],
-    right: &[u32; 64],
+    index: &Index,
+    ends: Ends,
+    left: &[u64; 24],
+    right: &[u64; 16],
     g: Gathered,
 ) -> bool
-    requires { ⌜ Known (now file) at (now index) ⌝ }
-    requires { ⌜ Gathers (decoded (now file)) (now index) rule e d (now left) (now right) g ⌝ }
-    requires { ⌜ g .actions < at .«action_sets» ⌝ }
-    ensures { λ r. ⌜ T r ↔ SomeRefuted (decoded (now (file .entry))) (g .actions) (leftOf (decoded (now (file .entry))) rule e d) (rightOf (decoded (now (file .entry))) rule e d) ⌝ }
+    requires { ⌜ Known (now file) (now index) × (ends ≡ endsOf (decoded (now file) .task)) ⌝ }
+    requires { ⌜ Searchable (now file) ends (now left) (now right) g ⌝ }
+    requires { ⌜ g .actions < length (decoded (now file) .actionSets) ⌝ }
+    ensures { λ r. ⌜ T r ↔ SomeCountered (now (file .entry)) ends (now (left .entry)) (now (right .entry)) g ⌝ }
 {
-    let marks = action_marks(file, at, index, g.actions);
-    let count = at.actions;
+    let marks = action_marks(file, index, g.actions);
+    let count = action_count(file);
     let mut i = 0u16;
     while i < count {
         if is_marked(marks, i) {
-            let a = action(file, at, index, i);
-            if one_refutes(file, at, index, rule, e, d, left, right, g, a) {
+            let a = action(file, i);
+            if one_refutes(file, ends, left, right, g, a) {
                 return true;
             }
         }
@@ -85,35 +82,41 @@ fn some_refutes(
     false
 }
 
-// Whether the gathered statement has a counterexample: by an action of its set where it has a bracket, else by none.
+// Whether a rule's statement has a bracket, and so an action set.
+fn has_bracket(rule: u8) -> bool
+    ensures { λ r. ⌜ r ≡ hasBracket rule ⌝ }
+{
+    match rule {
+        2 => true,
+        3 => true,
+        _ => false,
+    }
+}
+
+// Whether the statement of a rule with these leaves is untrue: by an action of its set where it has a bracket, else by none.
 fn is_countered(
     file: &[u8],
-    at: Places,
-    index: &[u16; 768],
+    index: &Index,
+    ends: Ends,
     rule: u8,
-    e: u16,
-    d: u16,
-    left: &[u32; 96],
-    right: &[u32; 64],
+    left: &[u64; 24],
+    right: &[u64; 16],
     g: Gathered,
 ) -> bool
-    requires { ⌜ Known (now file) at (now index) ⌝ }
-    requires { ⌜ Gathers (decoded (now file)) (now index) rule e d (now left) (now right) g ⌝ }
-    requires { ⌜ (2 ≤ rule → rule ≤ 3 → g .actions < at .«action_sets») ⌝ }
-    ensures { λ r. ⌜ T r ↔ Counter (decoded (now (file .entry))) (Acts (decoded (now (file .entry))) rule e) (leftOf (decoded (now (file .entry))) rule e d) (rightOf (decoded (now (file .entry))) rule e d) ⌝ }
+    requires { ⌜ Known (now file) (now index) × (ends ≡ endsOf (decoded (now file) .task)) ⌝ }
+    requires { ⌜ Searchable (now file) ends (now left) (now right) g ⌝ }
+    requires { ⌜ (hasBracket rule ≡ true → g .actions < length (decoded (now file) .actionSets)) ⌝ }
+    ensures { λ r. ⌜ T r ↔ ByRule (now (file .entry)) ends (now (left .entry)) (now (right .entry)) g rule ⌝ }
 {
+    if has_bracket(rule) {
+        return some_refutes(file, index, ends, left, right, g);
+    }
     let nothing = Action {
         pre: 0,
         add: 0,
         del: 0,
     };
-    if rule < 2 {
-        return one_refutes(file, at, index, rule, e, d, left, right, g, nothing);
-    }
-    if 3 < rule {
-        return one_refutes(file, at, index, rule, e, d, left, right, g, nothing);
-    }
-    some_refutes(file, at, index, rule, e, d, left, right, g)
+    one_refutes(file, ends, left, right, g, nothing)
 }
 
 // The verdict on a permitted statement.
@@ -128,20 +131,20 @@ fn verdict_on(untrue: bool) -> Verdict
 }
 
 // The verdict on rule 1 to 5 at entries e and d.
-pub fn decide(file: &[u8], at: Places, index: &[u16; 768], rule: u8, e: u16, d: u16) -> Verdict
-    requires { ⌜ Known (now file) at (now index) ⌝ }
+pub fn decide(file: &[u8], index: &Index, ends: Ends, rule: u8, e: u16, d: u16) -> Verdict
+    requires { ⌜ Known (now file) (now index) × (ends ≡ endsOf (decoded (now file) .task)) ⌝ }
     requires { ⌜ (1 ≤ rule) × (rule ≤ 5) ⌝ }
-    requires { ⌜ (rule ≡ 5 → (e < at .«action_sets») × (d < at .«action_sets»)) ⌝ }
+    requires { ⌜ (rule ≡ 5 → (e < length (decoded (now file) .actionSets)) × (d < length (decoded (now file) .actionSets))) ⌝ }
     ensures { λ r. ⌜ r ≡ verdictOf (decoded (now (file .entry))) rule e d ⌝ }
 {
     if rule == 5 {
-        return verdict_on(!actions_within(file, at, index, e, d));
+        return verdict_on(!actions_within(file, index, e, d));
     }
-    let mut left = [0u32; 96];
-    let mut right = [0u32; 64];
-    let g = gather(file, at, index, rule, e, d, &mut left, &mut right);
+    let mut left = [0u64; 24];
+    let mut right = [0u64; 16];
+    let g = gather(file, index, rule, e, d, &mut left, &mut right);
     if g.permitted {
-        return verdict_on(is_countered(file, at, index, rule, e, d, &left, &right, g));
+        return verdict_on(is_countered(file, index, ends, rule, &left, &right, g));
     }
     Verdict::NotPermitted
 }

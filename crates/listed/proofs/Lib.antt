@@ -1,3 +1,3 @@
 pub mod SearchLaws
-pub mod ListedLaws
+pub mod LoopLaws
 pub mod ShownLaws

@@ -1,27 +1,21 @@
 -- States listed in the file, by index, and what a search among ascending ones rules out.
 -- Assumes nothing.
-use mathlib.Core.Path.{_≡_, refl, ap, subst, sym, _∙_}
+use mathlib.Core.Path.{_≡_, ap, subst, sym, _∙_}
 use mathlib.Core.Logic.{inl, inr}
 use Prim.Native.Nat.{ℕ, zero, suc, _+_, _*_, _≤_, _<_}
 use native.Mathlib.Nat.{not-suc-le-zero, le-refl, le-trans, le-of-suc-le-suc}
 use native.Mathlib.Omega.{arith}
 use native.Mathlib.Decide.{decLt}
-use mathlib.Core.Bool.{Bool, true, false}
 use mathlib.Core.List.{List}
 use lib.ListN.{length}
 use lib.Dec.{T, ltb, lt→ltb, ltb→lt}
 use Rattle.task.specs.Reach.{member}
-use Rattle.task.proofs.Tests.{is-true, member-none, member-first, member-rest, member-cases}
+use Rattle.task.proofs.Tests.{is-true, is-false, member-none, member-first, member-rest, member-cases}
 use Rattle.bytes.specs.Numbers.{numberAt}
 use Rattle.meaning.specs.Writing.{Ascending}
 use Rattle.meaning.specs.Bytes.{number}
 use Rattle.bytes.proofs.ByteLaws.{number-in}
-use Rattle.listed.specs.Listed.{statesAt}
-
--- a test that cannot pass
-pub is-false : (b : Bool) → (T b → ⊥) → b ≡ false
-is-false true f = absurd (f tt)
-is-false false f = refl
+use Rattle.leaves.specs.Holds.{statesAt}
 
 -- what holds from one number on up to i, and of i
 pub from-more : (Q : ℕ → Type 0) (from i : ℕ) → ((k : ℕ) → from ≤ k → k < i → Q k) → Q i → (k : ℕ) → from ≤ k → k < i + 1 → Q k
@@ -75,7 +69,8 @@ module _ (bytes : List ℕ) where
       (rises (suc (numberAt 8 bytes at)) (at + 8) n i j (a .1) (le-of-suc-le-suc l) (le-of-suc-le-suc h))
 
   -- a word that is read within the file
-  pub word-in : (at count mid : ℕ) → at + 8 * count ≤ length bytes → mid < count → {x : ℕ} → x ≡ number 8 bytes (at + 8 * mid) → x ≡ word bytes at mid
+  pub word-in : (at count mid : ℕ) → at + 8 * count ≤ length bytes → mid < count
+      → {x : ℕ} → x ≡ number 8 bytes (at + 8 * mid) → x ≡ word bytes at mid
   word-in at count mid o l e = e ∙ sym (number-in 8 bytes (at + 8 * mid) (omega arith))
 
   module _ (at count s : ℕ) where
@@ -108,8 +103,10 @@ module _ (bytes : List ℕ) where
 
     pub search-found : {x k : ℕ} → x ≡ word bytes at k → k < count → x ≡ s → ltb k count ≡ member s (statesAt bytes at count)
     search-found {k = k} e l q =
-        is-true (ltb k count) (lt→ltb k count l) ∙ sym (is-true _ (subst (λ (y : ℕ). T (member y (statesAt bytes at count))) (sym e ∙ q) (listed-at at count k l)))
+        let m = subst (λ (y : ℕ). T (member y (statesAt bytes at count))) (sym e ∙ q) (listed-at at count k l) in
+        is-true (ltb k count) (lt→ltb k count l) ∙ sym (is-true _ m)
 
     pub search-missed : {lo hi : ℕ} → Bracket lo hi → hi ≤ lo → ltb count count ≡ member s (statesAt bytes at count)
     search-missed b l =
-        is-false (ltb count count) (λ t. let w = ltb→lt count count t in omega arith) ∙ sym (is-false _ (λ m. let w = listed-in s at count m in let v = b .between (w .0) (w .1) (w .2) in omega arith))
+        is-false (ltb count count) (λ t. let w = ltb→lt count count t in omega arith)
+        ∙ sym (is-false _ (λ m. let w = listed-in s at count m in let v = b .between (w .0) (w .1) (w .2) in omega arith))

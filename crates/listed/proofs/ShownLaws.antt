@@ -1,24 +1,45 @@
--- One state and one action that make a statement untrue, as the code tests them and as `Shows` puts them.
+-- One state and one action that make a statement untrue, as the code tests them and as `Countered` puts them.
 -- Assumes nothing.
-use mathlib.Core.Path.{_≡_, refl, ap, subst, sym}
+use mathlib.Core.Path.{_≡_, refl, ap, subst, sym, _∙_}
 use mathlib.Core.Logic.{_↔_, inl, inr}
-use Prim.Native.Nat.{ℕ, zero, suc, _+_, _*_, _<_}
+use Prim.Native.Nat.{ℕ, _^_, _≤_, _<_}
 use native.Mathlib.Omega.{arith}
 use mathlib.Core.Bool.{Bool, true, false, not, _&&_, _||_}
-use mathlib.Core.List.{List, []}
-use lib.ListN.{getD}
+use mathlib.Core.List.{List}
+use lib.ListN.{length}
 use lib.Dec.{T, eqb, eqb→eq}
 use Rattle.task.specs.declared.Action.{Action}
+use Rattle.task.specs.declared.Ends.{Ends}
 use Rattle.task.specs.Task.{applies, after}
 use Rattle.task.specs.Reach.{member}
-use Rattle.task.proofs.Tests.{and-left, and-right, and-both, or-cases, or-right, same, holds, never, member-none, member-first, member-cases}
+use Rattle.task.proofs.Tests.{and-left, and-right, and-both, or-cases, or-right, holds, is-false, never, member-none}
+use Rattle.task.proofs.Names.{at-init-is, at-init-same}
 use Rattle.meaning.specs.Sets.{allBelow, someBelow}
-use Rattle.trees.specs.Counter.{seen}
-use Rattle.listed.specs.declared.Rows.{Rows}
-use Rattle.listed.specs.Listed.{statesAt, InOrder, leafHolds, leafStates, leafHoldsAt, leafStatesAt, Shows}
-use Rattle.listed.specs.Search.{ListsAfter, RowsAfter, Held, spared, holdsAt, showsIn, Readable}
 use Rattle.meaning.proofs.Below.{all-at, all-of, some-at, some-of}
-use Rattle.listed.proofs.SearchLaws.{is-false, word, listed-at, listed-in}
+use Rattle.certificate.specs.declared.Span.{Span}
+use Rattle.certificate.specs.declared.BasicEntry.{BasicEntry}
+use Rattle.certificate.specs.declared.BasicEntry.the-variants.{Empty, Init, Explicit}
+use Rattle.counterexample.specs.Counter.{seen}
+use Rattle.leaves.specs.declared.Leaf.{Leaf}
+use Rattle.leaves.specs.Leaves.{leafIn, leavesIn}
+use Rattle.leaves.specs.Holds.{statesAt, InOrder, setHolds, Orderly}
+use Rattle.leaves.specs.Lists.{leafHolds, Countered}
+use Rattle.leaves.proofs.ListLaws.{each-at, each-of}
+use Rattle.listed.specs.Listed.{ListsStates, Anchored}
+use Rattle.listed.specs.Search.{Readable, RowsAfter, Closed, holdsOne, showsIn}
+use Rattle.listed.proofs.SearchLaws.{word, listed-at, listed-in}
+
+-- leaf j: its set may be asked, and what was asked of it
+module _ (bytes leaves : List ℕ) (m : ℕ) (h : Readable bytes leaves m) (j : ℕ) (l : j < m) where
+  orderly-at : Orderly bytes (leafIn leaves j .set)
+  orderly-at = each-at (λ x. Orderly bytes (x .set)) leaves m (h .0) (h .1) j l
+
+  pub orderly-leaf : {x : Leaf} → x ≡ leafIn leaves j → Orderly bytes (x .set)
+  orderly-leaf e = subst (λ (y : Leaf). Orderly bytes (y .set)) (sym e) orderly-at
+
+pub tested : (bytes leaves : List ℕ) (ends : Ends) (s t j : ℕ) {x : Leaf} {b : Bool} → x ≡ leafIn leaves j → b ≡ holdsOne bytes ends s t x
+    → holdsOne bytes ends s t (leafIn leaves j) ≡ b
+tested bytes leaves ends s t j e q = sym (q ∙ ap (holdsOne bytes ends s t) e)
 
 -- ---- three tests, one after the other
 
@@ -31,178 +52,152 @@ third-fails true true e = e
 third-fails true false e = refl
 third-fails false q e = refl
 
-module _ (bytes : List ℕ) (init goal : ℕ) (a : Action) (left : List ℕ) (m : ℕ) (right : List ℕ) (r but s : ℕ) where
-  -- every left leaf but one holds, no right leaf does; t is the state after the action
+module _ (bytes : List ℕ) (ends : Ends) (a : Action) (left : List ℕ) (m : ℕ) (right : List ℕ) (r anchor s : ℕ) where
+  -- every left leaf but the anchor holds, no right leaf does; t is the state after the action
   abbrev Lefts : ℕ → Bool
-  Lefts t = allBelow m (λ j. eqb j but || holdsAt bytes init goal s t left j)
+  Lefts t = allBelow m (λ j. eqb j anchor || holdsOne bytes ends s t (leafIn left j))
 
   abbrev Rights : ℕ → Bool
-  Rights t = allBelow r (λ j. not (holdsAt bytes init goal s t right j))
+  Rights t = allBelow r (λ j. not (holdsOne bytes ends s t (leafIn right j)))
 
-  pub shows-not-applies : applies a s ≡ false → false ≡ showsIn bytes init goal a left m right r but s
+  pub shows-not-applies : applies a s ≡ false → false ≡ showsIn bytes ends a left m right r anchor s
   unfolding showsIn
   shows-not-applies e = rw e
 
-  pub shows-not-left : {t : ℕ} → t ≡ after a s → Lefts t ≡ false → false ≡ showsIn bytes init goal a left m right r but s
+  pub shows-not-left : {t : ℕ} → t ≡ after a s → Lefts t ≡ false → false ≡ showsIn bytes ends a left m right r anchor s
   unfolding showsIn
   shows-not-left e h = second-fails (applies a s) (Rights (after a s)) (rw e at h)
 
-  pub shows-rest : {t : ℕ} → t ≡ after a s → applies a s ≡ true → Lefts t ≡ true → Rights t ≡ showsIn bytes init goal a left m right r but s
+  pub shows-rest : {t : ℕ} → t ≡ after a s → applies a s ≡ true → Lefts t ≡ true → Rights t ≡ showsIn bytes ends a left m right r anchor s
   unfolding showsIn
   shows-rest {t} e p h = rw (p, ← e, h)
 
   -- where the first right leaf lists the state after the action, nothing is shown
-  shows-held : ListsAfter right r → T (member (after a s) (statesAt bytes (getD right 1 0) (getD right 2 0))) → showsIn bytes init goal a left m right r but s ≡ false
-  unfolding showsIn holdsAt leafHolds
-  shows-held (l, k, f) t =
+  shows-closed : (p : Span) → 1 ≤ r → leafIn right 0 .set ≡ Explicit p → leafIn right 0 .after ≡ true
+      → T (member (after a s) (statesAt bytes (p .at) (p .count))) → showsIn bytes ends a left m right r anchor s ≡ false
+  unfolding showsIn holdsOne setHolds
+  shows-closed p l k f t =
       third-fails (applies a s) (Lefts (after a s)) (is-false (Rights (after a s)) (λ h.
-      let n = all-at r (λ j. not (holdsAt bytes init goal s (after a s) right j)) h 0 l in
-      never (member (after a s) (statesAt bytes (getD right 1 0) (getD right 2 0))) t (rw (k, f) at n)))
+      let n = all-at r (λ j. not (holdsOne bytes ends s (after a s) (leafIn right j))) h 0 l in
+      never (member (after a s) (statesAt bytes (p .at) (p .count))) t (rw (k, f) at n)))
 
--- the states of the first right leaf are in order, and one among them is not shown
-module _ (bytes : List ℕ) (init goal : ℕ) (right : List ℕ) (r : ℕ) (p : Rows) where
-  pub rows-ordered : Readable bytes init goal right r → RowsAfter right r p → InOrder bytes (p .at) (p .count)
+-- the states of the first right leaf are in order, and one that leads to them is not shown
+module _ (bytes : List ℕ) (right : List ℕ) (r : ℕ) (p : Span) where
+  pub rows-ordered : Readable bytes right r → RowsAfter right r p → InOrder bytes (p .at) (p .count)
   unfolding statesAt
   rows-ordered h (inl e) = rw e (record { inside = omega arith; ascend = tt })
-  rows-ordered h (inr (l, e)) = rw e (h .ordered 0 (l .0) (same (l .1)))
+  rows-ordered h (inr (l, k, f)) = subst (Orderly bytes) k (orderly-at bytes right r h 0 l)
 
-  pub held-shows : (a : Action) (left : List ℕ) (m but s : ℕ) → RowsAfter right r p → Held bytes p a s → showsIn bytes init goal a left m right r but s ≡ false
+  pub closed-shows : (ends : Ends) (a : Action) (left : List ℕ) (m anchor s : ℕ) → RowsAfter right r p → Closed bytes p a s
+      → showsIn bytes ends a left m right r anchor s ≡ false
   unfolding statesAt
-  held-shows a left m but s w (inl e) = sym (shows-not-applies bytes init goal a left m right r but s e)
-  held-shows a left m but s (inl e) (inr q) = absurd (member-none (after a s) (holds (rw e at q)))
-  held-shows a left m but s (inr (h, e)) (inr q) = shows-held bytes init goal a left m right r but s h (holds (rw e at q))
+  closed-shows ends a left m anchor s w (inl e) = sym (shows-not-applies bytes ends a left m right r anchor s e)
+  closed-shows ends a left m anchor s (inl e) (inr q) = absurd (member-none (after a s) (holds (rw e at q)))
+  closed-shows ends a left m anchor s (inr (l, k, f)) (inr q) = shows-closed bytes ends a left m right r anchor s p l k f (holds q)
 
--- ---- leaves
+-- ---- what is shown, and what makes the statement untrue
 
-module _ (bytes : List ℕ) (init goal : ℕ) where
-  -- a leaf holds the states that it lists
-  leaf-listed : (kind at count s : ℕ) → T (member s (leafStates bytes init goal kind at count)) → T (leafHolds bytes init goal kind at count s)
-  unfolding leafStates leafHolds
-  leaf-listed zero at count s m = absurd (member-none s m)
-  leaf-listed (suc zero) at count s m = elim (member-cases s init [] m) [ inl e ↦ same e | inr k ↦ absurd (member-none s k) ]
-  leaf-listed (suc (suc zero)) at count s m = absurd (member-none s m)
-  leaf-listed (suc (suc (suc zero))) at count s m = m
-  leaf-listed (suc (suc (suc (suc k)))) at count s m = absurd (member-none s m)
+picked : (a : Action) (s : ℕ) (b : Bool) → elim b [ true ↦ after a s | false ↦ s ] ≡ seen b a s
+picked a s true = refl
+picked a s false = refl
 
-  -- only kinds 1 and 3 list any
-  none-listed : (kind at count : ℕ) → (kind ≡ 1 → ⊥) → (kind ≡ 3 → ⊥) → leafStates bytes init goal kind at count ≡ []
-  unfolding leafStates
-  none-listed zero at count h k = refl
-  none-listed (suc zero) at count h k = absurd (h refl)
-  none-listed (suc (suc zero)) at count h k = refl
-  none-listed (suc (suc (suc zero))) at count h k = absurd (k refl)
-  none-listed (suc (suc (suc (suc n)))) at count h k = refl
+-- with the state after the action worked out, a leaf is asked the same
+as-asked : (bytes : List ℕ) (ends : Ends) (a : Action) (s : ℕ) (x : Leaf)
+    → holdsOne bytes ends s (after a s) x ≡ leafHolds bytes ends a s x
+unfolding holdsOne leafHolds
+as-asked bytes ends a s x = ap (setHolds bytes ends (x .set)) (picked a s (x .after))
 
-  picked : (a : Action) (s : ℕ) (b : Bool) → elim b [ true ↦ after a s | false ↦ s ] ≡ seen b a s
-  picked a s true = refl
-  picked a s false = refl
-
-  -- with the state after the action worked out, a leaf is asked the same
-  held : (a : Action) (s : ℕ) (leaves : List ℕ) (j : ℕ) → holdsAt bytes init goal s (after a s) leaves j ≡ leafHoldsAt bytes init goal a s leaves j
-  unfolding holdsAt leafHoldsAt
-  held a s leaves j =
-      ap (leafHolds bytes init goal (getD leaves (4 * j) 0) (getD leaves (4 * j + 1) 0) (getD leaves (4 * j + 2) 0))
-      (picked a s (eqb (getD leaves (4 * j + 3) 0) 1))
-
-  -- the anchor itself holds its states, asked about the state before the action
-  anchor-holds : (a : Action) (s : ℕ) (left : List ℕ) (anchor : ℕ) → T (member s (leafStatesAt bytes init goal left anchor))
-      → eqb (getD left (4 * anchor + 3) 0) 1 ≡ false → T (leafHoldsAt bytes init goal a s left anchor)
-  unfolding leafStatesAt leafHoldsAt
-  anchor-holds a s left anchor h e =
-      rw e (leaf-listed (getD left (4 * anchor) 0) (getD left (4 * anchor + 1) 0) (getD left (4 * anchor + 2) 0) s h)
-
-module _ (bytes : List ℕ) (init goal : ℕ) (a : Action) (left : List ℕ) (m : ℕ) (right : List ℕ) (r anchor : ℕ) where
-  abbrev Shown : Type 0
-  Shown = Shows bytes init goal a left m right r anchor
+module _ (bytes : List ℕ) (ends : Ends) (a : Action) (left : List ℕ) (m : ℕ) (right : List ℕ) (r anchor : ℕ)
+    (room : m ≤ length left) (room' : r ≤ length right) (among : anchor < m) (is : Anchored bytes ends (leafIn left anchor)) where
+  abbrev Found : Type 0
+  Found = Countered bytes ends a (leavesIn left m) (leavesIn right r)
 
   abbrev In : ℕ → Bool
-  In s = showsIn bytes init goal a left m right r (spared left m anchor) s
+  In s = showsIn bytes ends a left m right r anchor s
 
-  abbrev States : List ℕ
-  States = leafStatesAt bytes init goal left anchor
-
-  -- left leaf j; and with the state after the action worked out
+  -- the test of left leaf j; the left tests and the right tests of a state
   abbrev L : ℕ → ℕ → Bool
-  L s j = leafHoldsAt bytes init goal a s left j
+  L s j = holdsOne bytes ends s (after a s) (leafIn left j)
 
-  abbrev H : ℕ → ℕ → Bool
-  H s j = holdsAt bytes init goal s (after a s) left j
-
-  -- the anchor's kind, place and count
-  abbrev K : ℕ
-  K = getD left (4 * anchor) 0
-
-  abbrev P : ℕ
-  P = getD left (4 * anchor + 1) 0
-
-  abbrev N : ℕ
-  N = getD left (4 * anchor + 2) 0
-
-  spared-holds : (s : ℕ) → T (member s States) → (j : ℕ) → j < m → T (eqb j (spared left m anchor)) → T (L s j)
-  unfolding spared
-  spared-holds s h j l = go (eqb (getD left (4 * anchor + 3) 0) 1) refl
-    where
-      go : (b : Bool) → eqb (getD left (4 * anchor + 3) 0) 1 ≡ b → T (eqb j (elim b [ true ↦ m | false ↦ anchor ])) → T (L s j)
-      go true e t = let d = eqb→eq j m t in absurd (omega arith)
-      go false e t = rw (eqb→eq j anchor t) (anchor-holds bytes init goal a s left anchor h e)
-
-  -- the left tests and the right tests of a state
   abbrev Ls : ℕ → Bool
-  Ls s = Lefts bytes init goal a left m right r (spared left m anchor) s (after a s)
+  Ls s = Lefts bytes ends a left m right r anchor s (after a s)
 
   abbrev Rs : ℕ → Bool
-  Rs s = Rights bytes init goal a left m right r (spared left m anchor) s (after a s)
+  Rs s = Rights bytes ends a left m right r anchor s (after a s)
 
-  -- a state of the anchor that passes the tests shows it, and every state that shows it passes them
-  shows-of : (s : ℕ) → T (member s States) → T (In s) → Shown
+  -- the anchor's set holds a state
+  abbrev set : BasicEntry
+  set = leafIn left anchor .set
+
+  abbrev Of : BasicEntry → ℕ → Type 0
+  Of y s = T (setHolds bytes ends y s)
+
+  anchor-asked : (s : ℕ) → leafHolds bytes ends a s (leafIn left anchor) ≡ setHolds bytes ends set s
+  unfolding leafHolds
+  anchor-asked s = rw (is .0) refl
+
+  -- a state of the anchor that passes the tests makes the statement untrue, and every state that does is one of the anchor and passes them
+  counters-of : (s : ℕ) → s < 2 ^ ends .facts → Of set s → T (In s) → Found
   unfolding showsIn
-  shows-of s h t =
+  counters-of s low h t =
       let before : T (applies a s && Ls s) = and-left (applies a s && Ls s) (Rs s) t in
       record {
         state = s;
-        listed = h;
+        low = low;
         allowed = and-left (applies a s) (Ls s) before;
-        holds = λ j l.
-            elim (or-cases (eqb j (spared left m anchor)) (H s j) (all-at m _ (and-right (applies a s) (Ls s) before) j l)) [
-              | inl e ↦ spared-holds s h j l e
-              | inr k ↦ subst T (held bytes init goal a s left j) k
-            ];
-        fails = λ j l.
-            subst (λ (b : Bool). T (not b)) (held bytes init goal a s right j) (all-at r _ (and-right (applies a s && Ls s) (Rs s) t) j l);
+        holds = each-of (λ x. T (leafHolds bytes ends a s x)) left m room (λ j l.
+            elim (or-cases (eqb j anchor) (L s j) (all-at m _ (and-right (applies a s) (Ls s) before) j l)) [
+              | inl e ↦ rw (eqb→eq j anchor e) (subst T (sym (anchor-asked s)) h)
+              | inr k ↦ subst T (as-asked bytes ends a s (leafIn left j)) k
+            ]);
+        fails = each-of (λ x. T (not (leafHolds bytes ends a s x))) right r room' (λ j l.
+            subst (λ (b : Bool). T (not b)) (as-asked bytes ends a s (leafIn right j))
+            (all-at r _ (and-right (applies a s && Ls s) (Rs s) t) j l));
       }
 
-  shows-in : (w : Shown) → T (In (w .state))
+  counters-in : (w : Found) → T (In (w .state))
   unfolding showsIn
-  shows-in w =
+  counters-in w =
       let s : ℕ = w .state in
       and-both (applies a s && Ls s) (Rs s)
       (and-both (applies a s) (Ls s) (w .allowed)
-      (all-of m _ (λ j l. or-right (eqb j (spared left m anchor)) (H s j) (subst T (sym (held bytes init goal a s left j)) (w .holds j l)))))
-      (all-of r _ (λ j l. subst (λ (b : Bool). T (not b)) (sym (held bytes init goal a s right j)) (w .fails j l)))
+      (all-of m _ (λ j l. or-right (eqb j anchor) (L s j)
+      (subst T (sym (as-asked bytes ends a s (leafIn left j)))
+      (each-at (λ x. T (leafHolds bytes ends a s x)) left m room (w .holds) j l)))))
+      (all-of r _ (λ j l. subst (λ (b : Bool). T (not b)) (sym (as-asked bytes ends a s (leafIn right j)))
+      (each-at (λ x. T (not (leafHolds bytes ends a s x))) right r room' (w .fails) j l)))
 
-  -- ---- the anchor lists no state; one; those from a place
+  counters-anchor : (w : Found) → Of set (w .state)
+  counters-anchor w =
+      subst T (anchor-asked (w .state)) (each-at (λ x. T (leafHolds bytes ends a (w .state) x)) left m room (w .holds) anchor among)
 
-  pub shown-none : (K ≡ 1 → ⊥) → (K ≡ 3 → ⊥) → T false ↔ Shown
-  unfolding leafStatesAt
-  shown-none h k = ((λ x. absurd x), (λ w. member-none (w .state) (rw (none-listed bytes init goal K P N h k) at (w .listed))))
+  -- ---- the anchor lists no state; one; those of a span
 
-  pub shown-one : {but : ℕ} {b : Bool} → but ≡ spared left m anchor → K ≡ 1
-      → b ≡ showsIn bytes init goal a left m right r but init → T b ↔ Shown
-  unfolding leafStatesAt leafStates
-  shown-one e k q = rw (q, e) (
-    shows-of init (rw k (member-first init init [] refl)),
-    (λ w. elim (member-cases (w .state) init [] (rw k at (w .listed))) [
-      | inl d ↦ subst (λ (s : ℕ). T (In s)) d (shows-in w)
-      | inr n ↦ absurd (member-none (w .state) n)
-    ]),
+  pub shown-none : set ≡ Empty → T false ↔ Found
+  unfolding setHolds
+  shown-none e = ((λ x. absurd x), (λ w. subst (λ (y : BasicEntry). Of y (w .state)) e (counters-anchor w)))
+
+  -- any other set is not an anchor's
+  pub shown-never : (y : BasicEntry) → set ≡ y → (ListsStates bytes ends y → ⊥) → T false ↔ Found
+  shown-never y e n = absurd (n (subst (ListsStates bytes ends) e (is .1)))
+
+  pub shown-one : {b : Bool} → set ≡ Init → b ≡ In (ends .init) → T b ↔ Found
+  unfolding setHolds
+  shown-one e q = rw q (
+    counters-of (ends .init) (subst (ListsStates bytes ends) e (is .1)) (rw e (at-init-same ends (ends .init) refl)),
+    (λ w.
+        let h = subst (λ (y : BasicEntry). Of y (w .state)) e (counters-anchor w) in
+        subst (λ (s : ℕ). T (In s)) (at-init-is ends (w .state) h) (counters-in w)),
   )
 
-  pub shown-some : {but : ℕ} {b : Bool} → but ≡ spared left m anchor → K ≡ 3
-      → b ≡ someBelow N (λ i. showsIn bytes init goal a left m right r but (word bytes P i)) → T b ↔ Shown
-  unfolding leafStatesAt leafStates
-  shown-some e k q = rw (q, e) (
-    (λ t. let w = some-at N _ t in shows-of (word bytes P (w .0)) (rw k (listed-at bytes P N (w .0) (w .1))) (w .2)),
+  pub shown-some : {b : Bool} (x : Span) → set ≡ Explicit x → b ≡ someBelow (x .count) (λ i. In (word bytes (x .at) i)) → T b ↔ Found
+  unfolding setHolds
+  shown-some x e q = rw q (
+    (λ t.
+        let w = some-at (x .count) _ t in
+        let h = listed-at bytes (x .at) (x .count) (w .0) (w .1) in
+        counters-of (word bytes (x .at) (w .0)) (subst (ListsStates bytes ends) e (is .1) _ h) (rw e h) (w .2)),
     (λ w.
-        let v = listed-in bytes (w .state) P N (rw k at (w .listed)) in
-        some-of N _ (v .0) (v .1) (subst (λ (s : ℕ). T (In s)) (v .2) (shows-in w))),
+        let v = listed-in bytes (w .state) (x .at) (x .count) (subst (λ (y : BasicEntry). Of y (w .state)) e (counters-anchor w)) in
+        some-of (x .count) _ (v .0) (v .1) (subst (λ (s : ℕ). T (In s)) (v .2) (counters-in w))),
   )

@@ -1,10 +1,18 @@
 // Statements over listed states: whether an action in a listed state makes a statement untrue.
-use bytes::u64_at;
 use bytes::u64_in;
+use certificate::BasicEntry;
+use certificate::Span;
+use leaves::Leaf;
+use leaves::leaf_at;
+use meaning::Clause;
 use task::Action;
+use task::Ends;
 use task::after;
 use task::all_on;
 use task::applies;
+use task::is_goal;
+use task::is_init;
+use words::words_in;
 ghost use mathlib.Core.Path.{_≡_};
 ghost use mathlib.Core.Logic.{_↔_};
 ghost use Prim.Native.Nat.{ℕ, _+_, _*_, _≤_, _<_};
@@ -14,9 +22,12 @@ ghost use lib.Dec.{T, eqb, ltb};
 ghost use Rattle.task.specs.Reach.{member};
 ghost use Rattle.bytes.specs.Numbers.{numberAt};
 ghost use Rattle.meaning.specs.Sets.{allBelow, someBelow, meets};
-ghost use Rattle.propagation.specs.Clauses.{clauseAt};
-ghost use Rattle.listed.specs.Listed.{statesAt, InOrder, leafHolds, InOrderAt, Shows};
-ghost use Rattle.listed.specs.Search.{RowsAfter, Held, holdsAt, showsIn, spared, Readable, Ready};
+ghost use Rattle.words.specs.Words.{wordsAt};
+ghost use Rattle.leaves.specs.Leaves.{leafIn, leavesIn};
+ghost use Rattle.leaves.specs.Holds.{statesAt, InOrder, setHolds, Orderly};
+ghost use Rattle.leaves.specs.Lists.{Each, Countered};
+ghost use Rattle.listed.specs.Listed.{Anchored};
+ghost use Rattle.listed.specs.Search.{Readable, RowsAfter, Closed, holdsOne, showsIn};
 
 // The guess, where it is one of so many, else the one in the middle.
 fn within(guess: usize, all: usize) -> usize
@@ -63,31 +74,31 @@ fn find(file: &[u8], at: u32, count: u32, guess: usize, s: u64) -> usize
     all
 }
 
-// Whether a state is among them.
-fn among(file: &[u8], at: u32, count: u32, s: u64) -> bool
-    requires { ⌜ InOrder (now file) at count ⌝ }
-    ensures { λ b. ⌜ b ≡ member s (statesAt (now (file .entry)) at count) ⌝ }
+// Whether a state is among the listed ones.
+fn among(file: &[u8], x: Span, s: u64) -> bool
+    requires { ⌜ InOrder (now file) (x .at) (x .count) ⌝ }
+    ensures { λ b. ⌜ b ≡ member s (statesAt (now (file .entry)) (x .at) (x .count)) ⌝ }
 {
-    find(file, at, count, 0, s) < count as usize
+    find(file, x.at, x.count as u32, 0, s) < x.count as usize
 }
 
 // Whether a state meets a clause.
-fn meets(s: u64, positive: u64, negative: u64) -> bool
-    ensures { λ b. ⌜ b ≡ meets s (record { positive = positive; negative = negative }) ⌝ }
+fn meets(s: u64, c: Clause) -> bool
+    ensures { λ b. ⌜ b ≡ meets s c ⌝ }
 {
-    (s & positive != 0) | !all_on(negative, s)
+    (s & c.positive != 0) | !all_on(c.negative, s)
 }
 
-// Whether a state meets each of `count` clauses from a place: a leaf of kind 4 or 5.
-fn meets_all(file: &[u8], at: u32, count: u32, s: u64) -> bool
-    ensures { λ b. ⌜ b ≡ allBelow count (λ i. meets s (clauseAt (now (file .entry)) 0 0 4 at i)) ⌝ }
+// Whether a state meets each clause.
+fn meets_all(file: &[u8], x: Span, s: u64) -> bool
+    requires { ⌜ x .at + 16 * x .count ≤ length (now file) ⌝ }
+    ensures { λ b. ⌜ b ≡ allBelow (x .count) (λ i. meets s (wordsAt (now (file .entry)) (x .at) i)) ⌝ }
 {
-    let first = at as usize;
-    let clauses = count as usize;
-    let mut i: usize = 0;
-    while i < clauses {
-        let place = first + 16 * i;
-        if !meets(s, u64_at(file, place), u64_at(file, place + 8)) {
+    let at = x.at;
+    let count = x.count as u32;
+    let mut i = 0u32;
+    while i < count {
+        if !meets(s, words_in(file, at, i)) {
             return false;
         }
         i += 1;
@@ -95,49 +106,40 @@ fn meets_all(file: &[u8], at: u32, count: u32, s: u64) -> bool
     true
 }
 
-// Whether a leaf of kinds 0 to 5 holds a state.
-pub fn leaf_holds(file: &[u8], init: u64, goal: u64, kind: u32, at: u32, count: u32, s: u64) -> bool
-    requires { ⌜ (T (eqb kind 3) → InOrder (now file) at count) ⌝ }
-    ensures { λ b. ⌜ b ≡ leafHolds (now (file .entry)) init goal kind at count s ⌝ }
+// Whether a set of kinds 0 to 5 holds a state.
+pub fn set_holds(file: &[u8], ends: Ends, set: BasicEntry, s: u64) -> bool
+    requires { ⌜ Orderly (now file) set ⌝ }
+    ensures { λ b. ⌜ b ≡ setHolds (now (file .entry)) ends set s ⌝ }
 {
-    match kind {
-        0 => false,
-        1 => s == init,
-        2 => all_on(goal, s),
-        3 => among(file, at, count, s),
-        _ => meets_all(file, at, count, s),
+    match set {
+        BasicEntry::Empty => false,
+        BasicEntry::Init => is_init(ends, s),
+        BasicEntry::Goal => is_goal(ends, s),
+        BasicEntry::Explicit(x) => among(file, x, s),
+        BasicEntry::Horn(x) => meets_all(file, x, s),
+        BasicEntry::TwoCnf(x) => meets_all(file, x, s),
     }
 }
 
-// Whether leaf j of a flat array holds s, or t where it is asked about the state after the action.
-fn holds_at(file: &[u8], init: u64, goal: u64, leaves: &[u32], j: usize, s: u64, t: u64) -> bool
-    requires { ⌜ 4 * j + 4 ≤ length (now leaves) ⌝ }
-    requires { ⌜ InOrderAt (now file) init goal (now leaves) j ⌝ }
-    ensures { λ b. ⌜ b ≡ holdsAt (now (file .entry)) init goal s t (now (leaves .entry)) j ⌝ }
+// Whether a leaf holds s, or t where it is asked about the state after the action.
+fn holds_one(file: &[u8], ends: Ends, x: Leaf, s: u64, t: u64) -> bool
+    requires { ⌜ Orderly (now file) (x .set) ⌝ }
+    ensures { λ b. ⌜ b ≡ holdsOne (now (file .entry)) ends s t x ⌝ }
 {
-    let i = 4 * j;
-    let x = if leaves[i + 3] == 1 { t } else { s };
-    leaf_holds(file, init, goal, leaves[i], leaves[i + 1], leaves[i + 2], x)
+    let set = x.set;
+    let v = if x.after { t } else { s };
+    set_holds(file, ends, set, v)
 }
 
 // Whether each of m leaves holds, where leaf `but` is not asked.
-fn all_hold(
-    file: &[u8],
-    init: u64,
-    goal: u64,
-    leaves: &[u32],
-    m: usize,
-    but: usize,
-    s: u64,
-    t: u64,
-) -> bool
-    requires { ⌜ Readable (now file) init goal (now leaves) m ⌝ }
-    ensures { λ b. ⌜ b ≡ allBelow m (λ j. eqb j but || holdsAt (now (file .entry)) init goal s t (now (leaves .entry)) j) ⌝ }
+fn all_hold(file: &[u8], ends: Ends, leaves: &[u64], m: usize, but: usize, s: u64, t: u64) -> bool
+    requires { ⌜ Readable (now file) (now leaves) m ⌝ }
+    ensures { λ b. ⌜ b ≡ allBelow m (λ j. eqb j but || holdsOne (now (file .entry)) ends s t (leafIn (now (leaves .entry)) j)) ⌝ }
 {
     let mut j: usize = 0;
     while j < m {
         if j != but {
-            if !holds_at(file, init, goal, leaves, j, s, t) {
+            if !holds_one(file, ends, leaf_at(leaves, j), s, t) {
                 return false;
             }
         }
@@ -147,13 +149,13 @@ fn all_hold(
 }
 
 // Whether none of r leaves holds.
-fn none_holds(file: &[u8], init: u64, goal: u64, leaves: &[u32], r: usize, s: u64, t: u64) -> bool
-    requires { ⌜ Readable (now file) init goal (now leaves) r ⌝ }
-    ensures { λ b. ⌜ b ≡ allBelow r (λ j. not (holdsAt (now (file .entry)) init goal s t (now (leaves .entry)) j)) ⌝ }
+fn none_holds(file: &[u8], ends: Ends, leaves: &[u64], r: usize, s: u64, t: u64) -> bool
+    requires { ⌜ Readable (now file) (now leaves) r ⌝ }
+    ensures { λ b. ⌜ b ≡ allBelow r (λ j. not (holdsOne (now (file .entry)) ends s t (leafIn (now (leaves .entry)) j))) ⌝ }
 {
     let mut j: usize = 0;
     while j < r {
-        if holds_at(file, init, goal, leaves, j, s, t) {
+        if holds_one(file, ends, leaf_at(leaves, j), s, t) {
             return false;
         }
         j += 1;
@@ -161,65 +163,59 @@ fn none_holds(file: &[u8], init: u64, goal: u64, leaves: &[u32], r: usize, s: u6
     true
 }
 
-// Whether a state makes the statement untrue: the action applies there, all left leaves hold and no right one does.
+// Whether a state of the anchor makes the statement untrue: the action applies there, the other left leaves hold and no right one does.
 fn shows_in(
     file: &[u8],
-    init: u64,
-    goal: u64,
-    left: &[u32],
+    ends: Ends,
+    left: &[u64],
     m: usize,
-    right: &[u32],
+    right: &[u64],
     r: usize,
-    but: usize,
+    anchor: usize,
     a: Action,
     s: u64,
 ) -> bool
-    requires { ⌜ Readable (now file) init goal (now left) m ⌝ }
-    requires { ⌜ Readable (now file) init goal (now right) r ⌝ }
-    ensures { λ b. ⌜ b ≡ showsIn (now (file .entry)) init goal a (now (left .entry)) m (now (right .entry)) r but s ⌝ }
+    requires { ⌜ Readable (now file) (now left) m × Readable (now file) (now right) r ⌝ }
+    ensures { λ b. ⌜ b ≡ showsIn (now (file .entry)) ends a (now (left .entry)) m (now (right .entry)) r anchor s ⌝ }
 {
     if !applies(a, s) {
         return false;
     }
     let t = after(a, s);
-    if !all_hold(file, init, goal, left, m, but, s, t) {
+    if !all_hold(file, ends, left, m, anchor, s, t) {
         return false;
     }
-    none_holds(file, init, goal, right, r, s, t)
-}
-
-// Listed states: where the first of them stands, and how many there are.
-pub struct Rows {
-    pub at: u32,
-    pub count: u32,
+    none_holds(file, ends, right, r, s, t)
 }
 
 // The states of the first right leaf, where it lists them and is asked about the state after the action; else none.
-fn rows_after(right: &[u32], r: usize) -> Rows
-    requires { ⌜ 4 * r ≤ length (now right) ⌝ }
+fn rows_after(right: &[u64], r: usize) -> Span
+    requires { ⌜ r ≤ length (now right) ⌝ }
     ensures { λ p. ⌜ RowsAfter (now (right .entry)) r p ⌝ }
 {
     if r == 0 {
-        return Rows { at: 0, count: 0 };
+        return Span { at: 0, count: 0 };
     }
-    if (right[0] == 3) & (right[3] == 1) {
-        return Rows {
-            at: right[1],
-            count: right[2],
-        };
+    let x = leaf_at(right, 0);
+    if !x.after {
+        return Span { at: 0, count: 0 };
     }
-    Rows { at: 0, count: 0 }
+    let set = x.set;
+    let BasicEntry::Explicit(rows) = set else {
+        return Span { at: 0, count: 0 };
+    };
+    rows
 }
 
 // The first of `count` states from a place, from number `from` on, in which the action applies and does not lead into the rows.
-fn first_open(file: &[u8], at: u32, count: u32, from: usize, rows: Rows, a: Action) -> usize
+fn first_open(file: &[u8], at: u32, count: u32, from: usize, rows: Span, a: Action) -> usize
     requires { ⌜ (from ≤ count) × (at + 8 * count ≤ length (now file)) × InOrder (now file) (rows .at) (rows .count) ⌝ }
-    ensures { λ r. ⌜ (r ≤ count) × (from ≤ r) × ((k : ℕ) → from ≤ k → k < r → Held (now (file .entry)) rows a (numberAt 8 (now (file .entry)) (at + 8 * k))) ⌝ }
+    ensures { λ r. ⌜ (r ≤ count) × (from ≤ r) × ((k : ℕ) → from ≤ k → k < r → Closed (now (file .entry)) rows a (numberAt 8 (now (file .entry)) (at + 8 * k))) ⌝ }
 {
     let first = at as usize;
     let states = count as usize;
     let place = rows.at;
-    let many = rows.count;
+    let many = rows.count as u32;
     let mut near: usize = 0;
     let mut i = from;
     while i < states {
@@ -236,31 +232,30 @@ fn first_open(file: &[u8], at: u32, count: u32, from: usize, rows: Rows, a: Acti
     i
 }
 
-// Whether one of `count` states from a place does. One from which the action leads into the first right leaf does not.
+// Whether one of the anchor's listed states does. One from which the action leads into the first right leaf does not.
 fn one_shows(
     file: &[u8],
-    init: u64,
-    goal: u64,
-    left: &[u32],
+    ends: Ends,
+    left: &[u64],
     m: usize,
-    right: &[u32],
+    right: &[u64],
     r: usize,
-    but: usize,
+    anchor: usize,
     a: Action,
-    at: u32,
-    count: u32,
+    x: Span,
 ) -> bool
-    requires { ⌜ Readable (now file) init goal (now left) m ⌝ }
-    requires { ⌜ Readable (now file) init goal (now right) r ⌝ }
-    requires { ⌜ at + 8 * count ≤ length (now file) ⌝ }
-    ensures { λ b. ⌜ b ≡ someBelow count (λ i. showsIn (now (file .entry)) init goal a (now (left .entry)) m (now (right .entry)) r but (numberAt 8 (now (file .entry)) (at + 8 * i))) ⌝ }
+    requires { ⌜ Readable (now file) (now left) m × Readable (now file) (now right) r ⌝ }
+    requires { ⌜ x .at + 8 * x .count ≤ length (now file) ⌝ }
+    ensures { λ b. ⌜ b ≡ someBelow (x .count) (λ i. showsIn (now (file .entry)) ends a (now (left .entry)) m (now (right .entry)) r anchor (numberAt 8 (now (file .entry)) (x .at + 8 * i))) ⌝ }
 {
     let rows = rows_after(right, r);
+    let at = x.at;
+    let count = x.count as u32;
     let states = count as usize;
     let mut i = first_open(file, at, count, 0, rows, a);
     while i < states {
         let s = u64_in(file, at as usize + 8 * i);
-        if shows_in(file, init, goal, left, m, right, r, but, a, s) {
+        if shows_in(file, ends, left, m, right, r, anchor, a, s) {
             return true;
         }
         i = first_open(file, at, count, i + 1, rows, a);
@@ -268,47 +263,31 @@ fn one_shows(
     false
 }
 
-// The left leaf that need not be asked: the anchor, unless it is asked about the state after the action.
-fn spared(left: &[u32], m: usize, anchor: usize) -> usize
-    requires { ⌜ 4 * anchor + 4 ≤ length (now left) ⌝ }
-    ensures { λ i. ⌜ i ≡ spared (now (left .entry)) m anchor ⌝ }
-{
-    if left[4 * anchor + 3] == 1 { m } else { anchor }
-}
-
-// Whether an action in a state of the anchor, a left leaf of listed states, makes the statement untrue.
+// Whether an action in a state of the anchor, a left leaf that lists its states, makes the statement untrue.
 pub fn shown(
     file: &[u8],
-    init: u64,
-    goal: u64,
-    left: &[u32],
+    ends: Ends,
+    left: &[u64],
     m: usize,
-    right: &[u32],
+    right: &[u64],
     r: usize,
     anchor: usize,
     a: Action,
 ) -> bool
-    requires { ⌜ Ready (now file) init goal (now left) m (now right) r anchor ⌝ }
-    ensures { λ b. ⌜ (T b ↔ Shows (now (file .entry)) init goal a (now (left .entry)) m (now (right .entry)) r anchor) ⌝ }
+    requires { ⌜ (m ≤ length (now left)) × (r ≤ length (now right)) × (anchor < m) × Anchored (now file) ends (leafIn (now left) anchor) ⌝ }
+    requires { ⌜ Each (λ x. Orderly (now file) (x .set)) (leavesIn (now left) m) × Each (λ x. Orderly (now file) (x .set)) (leavesIn (now right) r) ⌝ }
+    ensures { λ b. ⌜ T b ↔ Countered (now (file .entry)) ends a (leavesIn (now (left .entry)) m) (leavesIn (now (right .entry)) r) ⌝ }
 {
-    let but = spared(left, m, anchor);
-    let i = 4 * anchor;
-    let kind = left[i];
-    match kind {
-        1 => shows_in(file, init, goal, left, m, right, r, but, a, init),
-        3 => one_shows(
-            file,
-            init,
-            goal,
-            left,
-            m,
-            right,
-            r,
-            but,
-            a,
-            left[i + 1],
-            left[i + 2],
-        ),
-        _ => false,
+    let x = leaf_at(left, anchor);
+    let set = x.set;
+    match set {
+        BasicEntry::Empty => false,
+        BasicEntry::Init => shows_in(file, ends, left, m, right, r, anchor, a, ends.init),
+        BasicEntry::Goal => false,
+        BasicEntry::Explicit(states) => {
+            one_shows(file, ends, left, m, right, r, anchor, a, states)
+        }
+        BasicEntry::Horn(_) => false,
+        BasicEntry::TwoCnf(_) => false,
     }
 }

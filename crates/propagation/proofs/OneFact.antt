@@ -8,7 +8,8 @@ use native.Mathlib.Nat.{pow-suc, pos-of-ne-zero}
 use lib.Arith.{bin-ind}
 use lib.Bits.{bitAnd, and-step, and-self}
 use Rattle.task.specs.Facts.{without}
-use Rattle.task.proofs.Bits.{bit, bit-le, bit-none, bit-zero, bit-suc, bit-without, some-bit, same-bits}
+use Rattle.task.specs.Inner.{bit}
+use Rattle.task.proofs.Bits.{bit-le, bit-none, bit-zero, bit-suc, bit-without, some-bit, same-bits}
 use Rattle.meaning.specs.Layout.{onesIn}
 
 -- a fact of an empty mask is off, and a mask that is not 0 has a fact
@@ -37,7 +38,8 @@ bit-only (suc f) (suc i) e =
     ap suc (bit-only f i (sym (bit-suc f (2 ^ suc i) ∙ ap (bit f) z) ∙ e))
 
 pub bit-other : (f i : ℕ) → (f ≡ i → ⊥) → bit f (2 ^ i) ≡ 0
-bit-other f i h = elim (decLt (bit f (2 ^ i)) 1) [ yes l ↦ omega arith | no l ↦ absurd (h (bit-only f i (omega (arith, bit-le f (2 ^ i))))) ]
+bit-other f i h =
+    elim (decLt (bit f (2 ^ i)) 1) [ yes l ↦ omega arith | no l ↦ absurd (h (bit-only f i (omega (arith, bit-le f (2 ^ i))))) ]
 
 -- ---- x & (x - 1) is 0: x has one fact at most
 
@@ -125,7 +127,14 @@ ones-less (suc k) (suc f) m l e =
     same-bits _ _ (λ g. sym (bit-suc g (without m (2 ^ suc f))) ∙ bit-without (suc g) m (2 ^ suc f)
     ∙ rw (bit-suc g m, bit-suc g (2 ^ suc f), half f) (sym (bit-without g (m / 2) (2 ^ f)))) in
     let d : without m (2 ^ suc f) % 2 ≡ m % 2 =
-    omega (arith, bit-zero (without m (2 ^ suc f)), bit-without 0 m (2 ^ suc f), bit-other 0 (suc f) (λ z. omega arith), bit-zero m, bit-le 0 m) in
+    omega (
+      arith,
+      bit-zero (without m (2 ^ suc f)),
+      bit-without 0 m (2 ^ suc f),
+      bit-other 0 (suc f) (λ z. omega arith),
+      bit-zero m,
+      bit-le 0 m,
+    ) in
     rw (h, d, ones-less k f (m / 2) (omega arith) (sym (bit-suc f m) ∙ e)) (omega arith)
   where
     half : (f : ℕ) → 2 ^ suc f / 2 ≡ 2 ^ f

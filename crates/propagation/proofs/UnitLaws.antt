@@ -10,11 +10,13 @@ use native.Mathlib.Nat.{le-refl, pos-of-ne-zero}
 use lib.Bits.{bitAnd, bitOr}
 use lib.Dec.{T}
 use Rattle.task.specs.Facts.{without}
-use Rattle.task.proofs.Bits.{bit, bit-le, bit-and, bit-or, bit-without}
+use Rattle.task.specs.Inner.{bit}
+use Rattle.task.proofs.Bits.{bit-le, bit-and, bit-or, bit-without}
 use Rattle.meaning.specs.declared.Clause.{Clause}
 use Rattle.propagation.specs.declared.Assignment.{Assignment}
 use Rattle.meaning.specs.Sets.{meets}
-use Rattle.propagation.specs.Propagation.{mask, holding, failing, value, Agrees, Apart, Only, Held, Wide, Passed}
+use Rattle.propagation.specs.Clauses.{Only}
+use Rattle.propagation.specs.Propagation.{mask, holding, failing, value, Agrees, Apart, Held, Wide, Passed}
 use Rattle.propagation.proofs.OneFact.{off-in, on-in, one-bit, two-bits}
 use Rattle.propagation.proofs.ClauseLaws.{Has, met-by}
 
@@ -40,11 +42,17 @@ told-calm true m x = refl
 told-calm false m x = refl
 
 -- what it says, it said before, or is new
-told-says : (a : Bool) (m : ℕ) (x : Assignment) (b : Bool) (f : ℕ) → bit f (holding b (told a m x)) ≡ 1 → (bit f (holding b x) ≡ 1) ⊎ ((a ≡ b) × (bit f m ≡ 1))
-told-says true m x true f e = elim (decLt (bit f (x .on)) 1) [ yes l ↦ inr (refl, omega (arith, bit-or f (x .on) m)) | no l ↦ inl (omega (arith, bit-le f (x .on))) ]
+told-says : (a : Bool) (m : ℕ) (x : Assignment) (b : Bool) (f : ℕ) → bit f (holding b (told a m x)) ≡ 1
+    → (bit f (holding b x) ≡ 1) ⊎ ((a ≡ b) × (bit f m ≡ 1))
+told-says true m x true f e =
+    elim (decLt (bit f (x .on)) 1) [ yes l ↦ inr (refl, omega (arith, bit-or f (x .on) m)) | no l ↦ inl (omega (arith, bit-le f (x .on))) ]
 told-says true m x false f e = inl e
 told-says false m x true f e = inl e
-told-says false m x false f e = elim (decLt (bit f (x .off)) 1) [ yes l ↦ inr (refl, omega (arith, bit-or f (x .off) m)) | no l ↦ inl (omega (arith, bit-le f (x .off))) ]
+told-says false m x false f e =
+    elim (decLt (bit f (x .off)) 1) [
+      | yes l ↦ inr (refl, omega (arith, bit-or f (x .off) m))
+      | no l ↦ inl (omega (arith, bit-le f (x .off)))
+    ]
 
 told-new : (a : Bool) (m : ℕ) (x : Assignment) (f : ℕ) → bit f m ≡ 1 → bit f (holding a (told a m x)) ≡ 1
 told-new true m x f e = omega (arith, bit-or f (x .on) m, bit-le f (x .on))
@@ -54,20 +62,25 @@ told-apart : (a : Bool) (m : ℕ) (x : Assignment) → ((f : ℕ) → bit f m + 
 told-apart true m x h z f = omega (arith, bit-or f (x .on) m, h f, z f)
 told-apart false m x h z f = omega (arith, bit-or f (x .off) m, h f, z f)
 
--- lp and ln are what is left of the clause: the literals that are not known to fail
-module _ (x : Assignment) (c : Clause) (lp ln : ℕ) (hp : c .positive < 2 ^ 64) (hn : c .negative < 2 ^ 64)
-    (ep : lp ≡ without (c .positive) (x .off)) (en : ln ≡ without (c .negative) (x .on)) where
+-- lp and ln are what is left of a clause of words: the literals that are not known to fail
+pub record Left (x : Assignment) (c : Clause) (lp ln : ℕ) : Type 0 where
+  pub positive-fits : c .positive < 2 ^ 64
+  pub negative-fits : c .negative < 2 ^ 64
+  pub positive-left : lp ≡ without (c .positive) (x .off)
+  pub negative-left : ln ≡ without (c .negative) (x .on)
+
+module _ {x : Assignment} {c : Clause} {lp ln : ℕ} (k : Left x c lp ln) where
   fits : (b : Bool) → mask b c < 2 ^ 64
-  fits true = hp
-  fits false = hn
+  fits true = k .positive-fits
+  fits false = k .negative-fits
 
   abbrev left : Bool → ℕ
   left true = lp
   left false = ln
 
   in-left : (b : Bool) (f : ℕ) → bit f (left b) ≡ min (bit f (mask b c)) (1 - bit f (failing b x))
-  in-left true f = ap (bit f) ep ∙ bit-without f (c .positive) (x .off)
-  in-left false f = ap (bit f) en ∙ bit-without f (c .negative) (x .on)
+  in-left true f = ap (bit f) (k .positive-left) ∙ bit-without f (c .positive) (x .off)
+  in-left false f = ap (bit f) (k .negative-left) ∙ bit-without f (c .negative) (x .on)
 
   -- a literal that is left is one of the clause, and open
   is-left : (b : Bool) (f : ℕ) → bit f (left b) ≡ 1 → Has c b f × (bit f (failing b x) ≡ 0)
@@ -78,14 +91,28 @@ module _ (x : Assignment) (c : Clause) (lp ln : ℕ) (hp : c .positive < 2 ^ 64)
   possible s g t = let r = met-by s c t in (r .0, r .1, omega (arith, in-left (r .0) (r .1), r .2, alive (r .0) (r .1) (r .3)), r .3)
     where
       alive : (b : Bool) (f : ℕ) → bit f s ≡ value b → bit f (failing b x) ≡ 0
-      alive true f v = elim (decLt (bit f (x .off)) 1) [ yes l ↦ omega arith | no l ↦ absurd (omega (arith, g .says false f (omega (arith, bit-le f (x .off))))) ]
-      alive false f v = elim (decLt (bit f (x .on)) 1) [ yes l ↦ omega arith | no l ↦ absurd (omega (arith, g .says true f (omega (arith, bit-le f (x .on))))) ]
+      alive true f v =
+          elim (decLt (bit f (x .off)) 1) [
+            | yes l ↦ omega arith
+            | no l ↦ absurd (omega (arith, g .says false f (omega (arith, bit-le f (x .off)))))
+          ]
+      alive false f v =
+          elim (decLt (bit f (x .on)) 1) [
+            | yes l ↦ omega arith
+            | no l ↦ absurd (omega (arith, g .says true f (omega (arith, bit-le f (x .on)))))
+          ]
 
   same : Held x c ⊎ Wide x c → Passed true (Only c) x x
   same h =
       record {
         goes = record { sound = λ s m g. g; grows = λ b f. le-refl _; calm = λ z. z; apart = λ z a. a };
-        looked = λ z d q. record { seen = x; after = λ b f. le-refl _; until = λ b f. le-refl _; settled = subst (λ (d : Clause). Held x d ⊎ Wide x d) (sym q) h };
+        looked = λ z d q.
+            record {
+              seen = x;
+              after = λ b f. le-refl _;
+              until = λ b f. le-refl _;
+              settled = subst (λ (d : Clause). Held x d ⊎ Wide x d) (sym q) h;
+            };
       }
 
   -- a literal of the clause holds already
@@ -96,12 +123,17 @@ module _ (x : Assignment) (c : Clause) (lp ln : ℕ) (hp : c .positive < 2 ^ 64)
       elim (decLt (bit f (bitAnd (c .positive) (x .on))) 1) [
         | yes l ↦
             let e : min (bit f (c .negative)) (bit f (x .off)) ≡ 1 =
-            sym (bit-and f (c .negative) (x .off)) ∙ omega (arith, r .1, bit-or f (bitAnd (c .positive) (x .on)) (bitAnd (c .negative) (x .off))) in
-            same (inl (record { side = false; fact = f; has = omega (arith, bit-le f (c .negative)); holds = omega (arith, bit-le f (x .off)) }))
+            sym (bit-and f (c .negative) (x .off))
+            ∙ omega (arith, r .1, bit-or f (bitAnd (c .positive) (x .on)) (bitAnd (c .negative) (x .off))) in
+            let n = bit-le f (c .negative) in
+            let o = bit-le f (x .off) in
+            same (inl (record { side = false; fact = f; has = omega arith; holds = omega arith }))
         | no l ↦
             let e : min (bit f (c .positive)) (bit f (x .on)) ≡ 1 =
             sym (bit-and f (c .positive) (x .on)) ∙ omega (arith, bit-le f (bitAnd (c .positive) (x .on))) in
-            same (inl (record { side = true; fact = f; has = omega (arith, bit-le f (c .positive)); holds = omega (arith, bit-le f (x .on)) }))
+            let p = bit-le f (c .positive) in
+            let o = bit-le f (x .on) in
+            same (inl (record { side = true; fact = f; has = omega arith; holds = omega arith }))
       ]
 
   wide : (a b : Bool) (f g : ℕ) → (a ≡ b → f ≡ g → ⊥) → bit f (left a) ≡ 1 → bit g (left b) ≡ 1 → Passed true (Only c) x x
@@ -153,7 +185,8 @@ module _ (x : Assignment) (c : Clause) (lp ln : ℕ) (hp : c .positive < 2 ^ 64)
       unchanged false f = le-refl _
 
   -- one literal is left
-  pub forces : (a : Bool) → left (not a) ≡ 0 → (left a ≡ 0 → ⊥) → bitAnd (left a) (left a - 1) ≡ 0 → Passed true (Only c) x (told a (left a) x)
+  pub forces : (a : Bool) → left (not a) ≡ 0 → (left a ≡ 0 → ⊥) → bitAnd (left a) (left a - 1) ≡ 0
+      → Passed true (Only c) x (told a (left a) x)
   forces a none some one =
       record {
         goes =
@@ -179,14 +212,16 @@ module _ (x : Assignment) (c : Clause) (lp ln : ℕ) (hp : c .positive < 2 ^ 64)
               seen = y;
               after = told-grows a (left a) x;
               until = λ b f. le-refl _;
-              settled = subst (λ (d : Clause). Held y d ⊎ Wide y d) (sym q) (inl (record { side = a; fact = r .0; has = is-left a (r .0) (r .1) .0; holds = told-new a (left a) x (r .0) (r .1) }));
+              settled = subst (λ (d : Clause). Held y d ⊎ Wide y d) (sym q)
+                  (inl (record { side = a; fact = r .0; has = is-left a (r .0) (r .1) .0; holds = told-new a (left a) x (r .0) (r .1) }));
             };
       }
     where
       alone : (f g : ℕ) → bit f (left a) ≡ 1 → bit g (left a) ≡ 1 → f ≡ g
       alone = one-bit (left a) (pos-of-ne-zero some) one
 
-      chosen : (s : ℕ) → (b : Bool) × (f : ℕ) × (bit f (left b) ≡ 1) × (bit f s ≡ value b) → (f : ℕ) × (bit f (left a) ≡ 1) × (bit f s ≡ value a)
+      chosen : (s : ℕ) → (b : Bool) × (f : ℕ) × (bit f (left b) ≡ 1) × (bit f s ≡ value b)
+          → (f : ℕ) × (bit f (left a) ≡ 1) × (bit f s ≡ value a)
       chosen s (b, f, u, v) =
           elim (same-or-not b a) [
             | inl q ↦ (f, ap (λ (d : Bool). bit f (left d)) (sym q) ∙ u, v ∙ ap value q)

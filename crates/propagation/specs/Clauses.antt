@@ -1,19 +1,32 @@
--- Leaves of kinds 0, 1, 2, 4 and 5 as clauses that are read from the file, and clauses of the state after an action as
+-- The clauses of a leaf: those of its set, read from the file where they stand there, and clauses of the state after an action as
 -- clauses of the state before it. Only the code's inner promises speak of this.
 -- Assumes nothing.
 use mathlib.Core.Path.{_≡_}
-use Prim.Native.Nat.{ℕ, _+_, _*_, _^_, _<_}
+use Prim.Native.Nat.{ℕ, _+_, _*_, _^_, _<_, _≤_}
 use mathlib.Core.Bool.{Bool, true, false, not, _||_}
-use mathlib.Core.List.{List, [], _∷_}
-use lib.ListN.{getD}
+use mathlib.Core.List.{List}
+use lib.ListN.{length}
 use lib.Dec.{T, eqb}
 use lib.Bits.{bitAnd, bitOr}
 use Rattle.task.specs.declared.Action.{Action}
-use Rattle.task.specs.Facts.{allOn, without}
-use Rattle.task.specs.Inner.{has}
+use Rattle.task.specs.declared.Ends.{Ends}
+use Rattle.task.specs.Facts.{without}
+use Rattle.task.specs.Inner.{has, noAction}
 use Rattle.meaning.specs.declared.Clause.{Clause}
-use Rattle.bytes.specs.Numbers.{numberAt}
-use Rattle.meaning.specs.Sets.{meets}
+use Rattle.bytes.specs.ClauseRule.{clauseRule}
+use Rattle.words.specs.Words.{wordsAt}
+use Rattle.certificate.specs.declared.Span.{Span}
+use Rattle.certificate.specs.declared.BasicEntry.{BasicEntry}
+use Rattle.certificate.specs.declared.BasicEntry.the-variants.{Empty, Init, Goal, Explicit, Horn, TwoCnf}
+use Rattle.leaves.specs.declared.Leaf.{Leaf}
+use Rattle.leaves.specs.Leaves.{leafIn, leavesIn}
+use Rattle.leaves.specs.Lists.{Each}
+use Rattle.propagation.specs.declared.Effect.{Effect}
+use Rattle.propagation.specs.declared.Setting.{Setting}
+use Rattle.propagation.specs.declared.Words.{Words}
+use Rattle.propagation.specs.declared.Words.the-variants.{Absent, At}
+
+-- ---- the clauses of a set
 
 -- the unit clause that says of fact i what the mask m does; and the one that says that a fact of m is on
 unfoldable pub sameAs : ℕ → ℕ → Clause
@@ -22,56 +35,128 @@ sameAs m i = elim (has m i) [ true ↦ record { positive = 2 ^ i; negative = 0 }
 unfoldable pub onIn : ℕ → ℕ → Clause
 onIn m i = elim (has m i) [ true ↦ record { positive = 2 ^ i; negative = 0 } | false ↦ record { positive = 2 ^ i; negative = 2 ^ i } ]
 
--- clause i of a leaf: kind 0 is the empty clause, kinds 1 and 2 a clause for each of 64 facts, the others stand in the file
-unfoldable pub clauseAt : List ℕ → ℕ → ℕ → ℕ → ℕ → ℕ → Clause
-clauseAt bytes init goal kind at i =
-    getD (record { positive = 0; negative = 0 } ∷ sameAs init i ∷ onIn goal i ∷ []) kind
-    (record { positive = numberAt 8 bytes (at + 16 * i); negative = numberAt 8 bytes (at + 16 * i + 8) })
+-- the empty set has the empty clause, the initial state and the goal one for each of 64 facts; others stand in the file. Listed
+-- states are no clauses
+unfoldable pub clauseCount : BasicEntry → ℕ
+clauseCount Empty = 1
+clauseCount Init = 64
+clauseCount Goal = 64
+clauseCount (Explicit x) = 0
+clauseCount (Horn x) = x .count
+clauseCount (TwoCnf x) = x .count
 
-unfoldable pub clauseCount : ℕ → ℕ → ℕ
-clauseCount kind count = getD (1 ∷ 64 ∷ 64 ∷ []) kind count
+-- where they stand in the file
+unfoldable pub wordsOf : BasicEntry → Words
+wordsOf Empty = Absent
+wordsOf Init = Absent
+wordsOf Goal = Absent
+wordsOf (Explicit x) = Absent
+wordsOf (Horn x) = At x
+wordsOf (TwoCnf x) = At x
+
+-- those that do not; of a set whose clauses do, nothing is said
+unfoldable pub ownClause : Ends → BasicEntry → ℕ → Clause
+ownClause ends Empty i = record { positive = 0; negative = 0 }
+ownClause ends Init i = sameAs (ends .init) i
+ownClause ends Goal i = onIn (ends .goal) i
+ownClause ends (Explicit x) i = record { positive = 0; negative = 0 }
+ownClause ends (Horn x) i = record { positive = 0; negative = 0 }
+ownClause ends (TwoCnf x) i = record { positive = 0; negative = 0 }
+
+unfoldable pub clauseOf : List ℕ → Ends → BasicEntry → ℕ → Clause
+clauseOf bytes ends x i = elim (wordsOf x) [ Absent ↦ ownClause ends x i | At s ↦ wordsAt bytes (s .at) i ]
+
+-- ---- through an action
+
+-- the action that a leaf's clauses are pulled through
+unfoldable pub acting : Action → Bool → Action
+acting a true = a
+acting a false = noAction
+
+-- what an action does to clauses, worked out once
+unfoldable pub effectOf : Action → Effect
+effectOf a = record { add = a .add; gone = without (a .del) (a .add); changed = bitOr (a .add) (a .del) }
 
 -- a clause of the state after the action, as a clause of the state before it: met by what the action adds or deletes,
 -- which is said by a clause that is always met; else what the action changes is struck out
-unfoldable pub metBy : Action → Clause → Bool
-metBy a c = not (eqb (bitAnd (c .positive) (a .add)) 0) || not (eqb (bitAnd (c .negative) (without (a .del) (a .add))) 0)
+unfoldable pub metBy : Effect → Clause → Bool
+metBy k c = not (eqb (bitAnd (c .positive) (k .add)) 0) || not (eqb (bitAnd (c .negative) (k .gone)) 0)
 
-unfoldable pub pulled : Action → Clause → Clause
-pulled a c =
-    elim (metBy a c) [
+unfoldable pub pulledBy : Effect → Clause → Clause
+pulledBy k c =
+    elim (metBy k c) [
       | true ↦ record { positive = 1; negative = 1 }
-      | false ↦ record { positive = without (c .positive) (bitOr (a .add) (a .del)); negative = without (c .negative) (bitOr (a .add) (a .del)) }
+      | false ↦ record { positive = without (c .positive) (k .changed); negative = without (c .negative) (k .changed) }
     ]
 
--- clause i of a leaf, over the state before the action
-unfoldable pub overOld : Action → Bool → Clause → Clause
-overOld a through c = elim through [ true ↦ pulled a c | false ↦ c ]
+-- ---- families of clauses
 
--- leaves as the code holds them, four numbers each: kind, place, count, and 1 where it is asked about the state after the action
-module _ (bytes : List ℕ) (init goal : ℕ) (a : Action) (leaves : List ℕ) where
-  unfoldable pub leafClause : ℕ → ℕ → Clause
-  leafClause j i =
-      overOld a (eqb (getD leaves (4 * j + 3) 0) 1) (clauseAt bytes init goal (getD leaves (4 * j) 0) (getD leaves (4 * j + 1) 0) i)
+-- a clause and no other; the clauses of the first k families
+abbrev pub Only : Clause → Clause → Type 0
+Only c d = d ≡ c
 
-  unfoldable pub leafCount : ℕ → ℕ
-  leafCount j = clauseCount (getD leaves (4 * j) 0) (getD leaves (4 * j + 2) 0)
+abbrev pub Below : (ℕ → Clause → Type 0) → ℕ → Clause → Type 0
+Below P k c = (i : ℕ) × (i < k) × P i c
 
-  -- a clause of leaf j; of one of the first m leaves
-  abbrev pub OfLeaf : ℕ → Clause → Type 0
-  OfLeaf j c = (i : ℕ) × (i < leafCount j) × (c ≡ leafClause j i)
+-- clause i of those in the file from a place, of those of a set that do not stand there, and of a set, each pulled through an action
+abbrev pub ofWords : List ℕ → ℕ → Effect → ℕ → Clause → Type 0
+ofWords bytes at k i = Only (pulledBy k (wordsAt bytes at i))
 
-  abbrev pub OfLeaves : ℕ → Clause → Type 0
-  OfLeaves m c = (j : ℕ) × (j < m) × OfLeaf j c
+abbrev pub ofOwn : Ends → BasicEntry → Effect → ℕ → Clause → Type 0
+ofOwn ends x k i = Only (pulledBy k (ownClause ends x i))
 
--- a state of n facts in which the action applies meets every left clause, and fails a clause of each of two right leaves
-pub record Refutes (n : ℕ) (a : Action) (left first second : Clause → Type 0) : Type 0 where
-  pub state : ℕ
-  pub low : state < 2 ^ n
-  pub allowed : T (allOn (a .pre) state)
-  pub meets-left : (c : Clause) → left c → T (meets state c)
-  pub failed₁ : Clause
-  pub of₁ : first failed₁
-  pub fails₁ : T (not (meets state failed₁))
-  pub failed₂ : Clause
-  pub of₂ : second failed₂
-  pub fails₂ : T (not (meets state failed₂))
+abbrev pub ofSet : List ℕ → Ends → BasicEntry → Effect → ℕ → Clause → Type 0
+ofSet bytes ends x k i = Only (pulledBy k (clauseOf bytes ends x i))
+
+-- the clauses of a leaf, over the state before the action; of leaf j of an array, and of the left leaves
+abbrev pub OfLeaf : List ℕ → Ends → Action → Leaf → Clause → Type 0
+OfLeaf bytes ends a x = Below (ofSet bytes ends (x .set) (effectOf (acting a (x .after)))) (clauseCount (x .set))
+
+abbrev pub LeafOf : List ℕ → List ℕ → Setting → ℕ → Clause → Type 0
+LeafOf bytes leaves k j = OfLeaf bytes (k .ends) (k .action) (leafIn leaves j)
+
+abbrev pub LeftOf : List ℕ → List ℕ → Setting → Clause → Type 0
+LeftOf bytes leaves k = Below (LeafOf bytes leaves k) (k .m)
+
+-- ---- what callers owe
+
+-- clauses stand within the file, and keep the rule of two-literal or of Horn clauses
+pub record Ruled (bytes : List ℕ) (two : Bool) (x : Span) : Type 0 where
+  pub inside : x .at + 16 * x .count ≤ length bytes
+  pub shape : (i : ℕ) → i < x .count → T (clauseRule two (wordsAt bytes (x .at) i .positive) (wordsAt bytes (x .at) i .negative))
+
+-- a set's clauses that stand in the file stand within it
+abbrev pub Inside : List ℕ → BasicEntry → Type 0
+Inside bytes Empty = Unit {0}
+Inside bytes Init = Unit {0}
+Inside bytes Goal = Unit {0}
+Inside bytes (Explicit x) = Unit {0}
+Inside bytes (Horn x) = x .at + 16 * x .count ≤ length bytes
+Inside bytes (TwoCnf x) = x .at + 16 * x .count ≤ length bytes
+
+-- a leaf that is not of listed states; and one whose clauses in the file are ruled
+abbrev pub UnlistedSet : BasicEntry → Type 0
+UnlistedSet Empty = Unit {0}
+UnlistedSet Init = Unit {0}
+UnlistedSet Goal = Unit {0}
+UnlistedSet (Explicit x) = ⊥
+UnlistedSet (Horn x) = Unit {0}
+UnlistedSet (TwoCnf x) = Unit {0}
+
+abbrev pub Unlisted : Leaf → Type 0
+Unlisted x = UnlistedSet (x .set)
+
+abbrev pub ClausalSet : List ℕ → Bool → BasicEntry → Type 0
+ClausalSet bytes two Empty = Unit {0}
+ClausalSet bytes two Init = Unit {0}
+ClausalSet bytes two Goal = Unit {0}
+ClausalSet bytes two (Explicit x) = ⊥
+ClausalSet bytes two (Horn x) = Ruled bytes two x
+ClausalSet bytes two (TwoCnf x) = Ruled bytes two x
+
+abbrev pub Clausal : List ℕ → Bool → Leaf → Type 0
+Clausal bytes two x = ClausalSet bytes two (x .set)
+
+-- the first m leaves of an array are there, and are clausal
+abbrev pub Usable : List ℕ → List ℕ → ℕ → Bool → Type 0
+Usable bytes leaves m two = (m ≤ length leaves) × Each (Clausal bytes two) (leavesIn leaves m)

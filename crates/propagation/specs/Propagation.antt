@@ -1,26 +1,20 @@
 -- What propagation over clauses promises. Only the code's inner promises speak of this.
 -- Assumes nothing.
 use mathlib.Core.Path.{_≡_}
-use Prim.Native.Nat.{ℕ, _+_, _*_, _≤_, _<_, _^_}
-use mathlib.Core.Bool.{Bool, true, false, not, _||_}
+use Prim.Native.Nat.{ℕ, _+_, _≤_, _<_, _^_}
+use mathlib.Core.Bool.{Bool, true, false, not}
 use mathlib.Core.List.{List}
 use mathlib.Core.Logic.{_⊎_}
-use lib.ListN.{length, getD}
-use lib.Dec.{T, eqb}
-use lib.Bits.{bitAnd, bitOr}
-use Rattle.task.specs.declared.Action.{Action}
-use Rattle.task.specs.Facts.{without}
-use Rattle.task.proofs.Bits.{bit}
+use lib.Dec.{T}
+use Rattle.task.specs.declared.Ends.{Ends}
+use Rattle.task.specs.Inner.{bit}
 use Rattle.meaning.specs.declared.Clause.{Clause}
-use Rattle.meaning.specs.Layout.{hornRule, twoCnfRule}
-use Rattle.words.specs.Words.{Misses}
-unfoldable pub use Rattle.words.specs.Words.{wordsAt}
-use Rattle.propagation.specs.declared.Assignment.{Assignment}
-use Rattle.propagation.specs.declared.Effect.{Effect}
-use Rattle.propagation.specs.declared.Case.{Case}
 use Rattle.meaning.specs.Sets.{meets}
-use Rattle.propagation.specs.Clauses.{clauseAt, OfLeaf, OfLeaves}
-use Rattle.task.specs.Inner.{noAction}
+use Rattle.words.specs.Words.{Misses}
+use Rattle.certificate.specs.declared.BasicEntry.{BasicEntry}
+use Rattle.leaves.specs.Leaves.{leafIn}
+use Rattle.propagation.specs.declared.Assignment.{Assignment}
+use Rattle.propagation.specs.Clauses.{clauseCount, clauseOf}
 
 -- ---- literals: a side, true for the positive one, and a fact
 
@@ -40,22 +34,6 @@ abbrev pub value : Bool → ℕ
 value true = 1
 value false = 0
 
--- the action that a leaf's clauses are pulled through
-unfoldable pub acting : Action → Bool → Action
-acting a true = a
-acting a false = noAction
-
--- what an action does to clauses, worked out once; and a clause pulled through it
-unfoldable pub effectOf : Action → Effect
-effectOf a = record { add = a .add; gone = without (a .del) (a .add); changed = bitOr (a .add) (a .del) }
-
-unfoldable pub pulledBy : Effect → Clause → Clause
-pulledBy k c =
-    elim (not (eqb (bitAnd (c .positive) (k .add)) 0) || not (eqb (bitAnd (c .negative) (k .gone)) 0)) [
-      | true ↦ record { positive = 1; negative = 1 }
-      | false ↦ record { positive = without (c .positive) (k .changed); negative = without (c .negative) (k .changed) }
-    ]
-
 -- a test tells whether there is an X
 pub record Tells (r : Bool) (X : Type 0) : Type 0 where
   pub finds : T r → X
@@ -72,27 +50,6 @@ pub record Agrees (s : ℕ) (x : Assignment) : Type 0 where
 -- no fact is both on and off
 abbrev pub Apart : Assignment → Type 0
 Apart x = (f : ℕ) → bit f (x .on) + bit f (x .off) ≤ 1
-
--- a clause and no other; the clauses of the first k families
-abbrev pub Only : Clause → Clause → Type 0
-Only c d = d ≡ c
-
-abbrev pub Below : (ℕ → Clause → Type 0) → ℕ → Clause → Type 0
-Below P k c = (i : ℕ) × (i < k) × P i c
-
--- clause i of those in the file from a place, and clause i of a leaf, each pulled through an action
-abbrev pub ofWords : List ℕ → ℕ → Effect → ℕ → Clause → Type 0
-ofWords bytes at k i = Only (pulledBy k (wordsAt bytes at i))
-
-abbrev pub ofKind : List ℕ → ℕ → ℕ → ℕ → ℕ → Effect → ℕ → Clause → Type 0
-ofKind bytes init goal kind at k i = Only (pulledBy k (clauseAt bytes init goal kind at i))
-
--- the clauses of leaf j, and of the left leaves
-abbrev pub LeafOf : List ℕ → List ℕ → Case → ℕ → Clause → Type 0
-LeafOf bytes leaves k = OfLeaf bytes (k .init) (k .goal) (k .action) leaves
-
-abbrev pub LeftOf : List ℕ → List ℕ → Case → Clause → Type 0
-LeftOf bytes leaves k = OfLeaves bytes (k .init) (k .goal) (k .action) leaves (k .m)
 
 -- a state meets every clause of P; a state fails some clause of P
 abbrev pub Meets : (Clause → Type 0) → ℕ → Type 0
@@ -130,14 +87,14 @@ pub record Waiting (x : Assignment) (c : Clause) : Type 0 where
   pub not-on : bit fact (x .on) ≡ 0
 
 -- at most one positive fact, the head; the negative ones are the body
-abbrev pub Horn : Clause → Type 0
-Horn c = (f g : ℕ) → f < 64 → g < 64 → bit f (c .positive) ≡ 1 → bit g (c .positive) ≡ 1 → f ≡ g
+abbrev pub OneHead : Clause → Type 0
+OneHead c = (f g : ℕ) → f < 64 → g < 64 → bit f (c .positive) ≡ 1 → bit g (c .positive) ≡ 1 → f ≡ g
 
 -- nothing follows from the clause: one literal holds, or two are open. Where only Horn clauses matter (`two` is false), it is
 -- enough that the body is not all on, whatever is known of the head; of a clause that is not Horn nothing is said then
 abbrev pub Quiet : Bool → Assignment → Clause → Type 0
 Quiet true x c = Held x c ⊎ Wide x c
-Quiet false x c = Horn c → Held x c ⊎ Waiting x c
+Quiet false x c = OneHead c → Held x c ⊎ Waiting x c
 
 abbrev pub Settled : Bool → (Clause → Type 0) → Assignment → Type 0
 Settled two P x = (c : Clause) → P c → Quiet two x c
@@ -203,7 +160,7 @@ abbrev pub Fillable : Bool → (Clause → Type 0) → Type 0
 Fillable two P = (r : Assignment) → r .on < 2 ^ 64 → r .conflict ≡ false → Apart r → Settled two P r → (s : ℕ) × Agrees s r × Meets P s
 
 -- fact i is known, and P still settled; a conflict where no state that agrees with x meets P
-pub record Decided (two : Bool) (P : Clause → Type 0) (i : ℕ) (x r : Assignment) : Type 0 where
+pub record Fixed (two : Bool) (P : Clause → Type 0) (i : ℕ) (x r : Assignment) : Type 0 where
   pub goes : Going (λ s. ⊥) x r
   pub known : 1 ≤ bit i (r .on) + bit i (r .off)
   pub settled : r .conflict ≡ false → Settled two P x → Settled two P r
@@ -247,35 +204,16 @@ pub record Worth (two : Bool) (P : Clause → Type 0) (x : Assignment) (r : Bool
   pub fills : T r → Fillable two P
   pub sees : Model P x → T r
 
--- ---- what callers owe
+-- ---- right clauses that are left clauses too
 
--- the rule of two-literal or of Horn clauses
-abbrev pub ruleOf : Bool → Clause → Bool
-ruleOf true c = twoCnfRule (c .positive) (c .negative)
-ruleOf false c = hornRule (c .positive) (c .negative)
+-- one of m leaves has this set, and is asked about the state before the action
+abbrev pub Before : List ℕ → ℕ → BasicEntry → Type 0
+Before leaves m x = (j : ℕ) × (j < m) × (leafIn leaves j ≡ record { set = x; after = false })
 
--- leaf j is there, and the clauses that it names stand within the file
-pub record RoomAt (bytes leaves : List ℕ) (j : ℕ) : Type 0 where
-  pub long : 4 * j + 4 ≤ length leaves
-  pub inside : 3 ≤ getD leaves (4 * j) 0 → getD leaves (4 * j + 1) 0 + 16 * getD leaves (4 * j + 2) 0 ≤ length bytes
+-- of clauses from i on up to r, each may be passed over (`before`), and an action that changes these facts leaves it as it is
+abbrev pub PassedOver : (ℕ → Clause) → ℕ → Bool → ℕ → ℕ → Type 0
+PassedOver clause i before changed r = (j : ℕ) → i ≤ j → j < r → (before ≡ true) × Misses true changed changed (clause j)
 
--- so of each of m leaves
-pub record Roomy (bytes leaves : List ℕ) (m : ℕ) : Type 0 where
-  pub long : 4 * m ≤ length leaves
-  pub inside : (j : ℕ) → j < m → 3 ≤ getD leaves (4 * j) 0 → getD leaves (4 * j + 1) 0 + 16 * getD leaves (4 * j + 2) 0 ≤ length bytes
-
--- one of m leaves has these numbers, and is asked about the state before the action
-abbrev pub Before : List ℕ → ℕ → ℕ → ℕ → ℕ → Type 0
-Before leaves m kind at count =
-    (j : ℕ) × (j < m) × (getD leaves (4 * j) 0 ≡ kind) × (getD leaves (4 * j + 1) 0 ≡ at) × (getD leaves (4 * j + 2) 0 ≡ count)
-    × (eqb (getD leaves (4 * j + 3) 0) 1 ≡ false)
-
--- of the clauses from i on up to r, each may be passed over (`before`), and an action that changes these facts leaves it as it is
-abbrev pub Opens : List ℕ → ℕ → ℕ → ℕ → Bool → ℕ → ℕ → Type 0
-Opens bytes at count i before changed r =
-    (i ≤ r) × (r ≤ count) × ((j : ℕ) → i ≤ j → j < r → (before ≡ true) × Misses true changed changed (wordsAt bytes at j))
-
--- m leaves whose clauses in the file keep to the rule
-pub record Usable (bytes leaves : List ℕ) (m : ℕ) (two : Bool) : Type 0 where
-  pub room : Roomy bytes leaves m
-  pub shape : (j i : ℕ) → j < m → 3 ≤ getD leaves (4 * j) 0 → i < getD leaves (4 * j + 2) 0 → T (ruleOf two (wordsAt bytes (getD leaves (4 * j + 1) 0) i))
+-- so of a set's clauses, whatever the task's ends are
+abbrev pub Opens : List ℕ → BasicEntry → ℕ → Bool → ℕ → ℕ → Type 0
+Opens bytes x i before changed r = (i ≤ r) × (r ≤ clauseCount x) × ((ends : Ends) → PassedOver (clauseOf bytes ends x) i before changed r)

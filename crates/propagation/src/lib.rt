@@ -1,7 +1,12 @@
 // Unit propagation over the clauses of leaves, for one action: what an assignment comes to know where each clause is to hold, until nothing
 // changes. Clauses are read from the file whenever they are looked at; none is kept.
+use certificate::BasicEntry;
+use certificate::Span;
+use leaves::Leaf;
+use leaves::leaf_at;
 use meaning::Clause;
 use task::Action;
+use task::Ends;
 use words::next_hit;
 use words::words_at;
 use words::words_in;
@@ -10,8 +15,9 @@ ghost use mathlib.Core.Bool.{true, false};
 ghost use Prim.Native.Nat.{_+_, _-_, _*_, _<_, _≤_, _^_};
 ghost use lib.ListN.{length};
 ghost use Rattle.task.specs.Facts.{without};
-ghost use Rattle.propagation.specs.Clauses.{clauseAt, clauseCount, sameAs, onIn};
-ghost use Rattle.propagation.specs.Propagation.{acting, effectOf, pulledBy, Only, Below, ofWords, ofKind, LeafOf, LeftOf, Alike, Tells, Based, Passed, Solved, RoomAt, Roomy};
+ghost use Rattle.propagation.specs.Clauses.{sameAs, onIn, clauseCount, wordsOf, ownClause, clauseOf, acting, effectOf};
+ghost use Rattle.propagation.specs.Clauses.{metBy, pulledBy, Only, Below, ofWords, ofOwn, OfLeaf, LeftOf, Clausal, Usable};
+ghost use Rattle.propagation.specs.Propagation.{Alike, Tells, Based, Passed, Solved};
 
 // Facts known to be on and facts known to be off.
 pub struct Assignment {
@@ -73,37 +79,74 @@ fn on_in(m: u64, i: u32) -> Clause
     }
 }
 
-// How many clauses a leaf of a kind has; `count` is how many stand in the file.
-pub fn clause_count(kind: u32, count: u32) -> u32
-    ensures { λ r. ⌜ r ≡ clauseCount kind count ⌝ }
+// How many clauses a set has.
+pub fn clause_count(set: BasicEntry) -> u32
+    ensures { λ r. ⌜ r ≡ clauseCount set ⌝ }
 {
-    if kind == 0 {
-        return 1;
+    match set {
+        BasicEntry::Empty => 1,
+        BasicEntry::Init => 64,
+        BasicEntry::Goal => 64,
+        BasicEntry::Explicit(_) => 0,
+        BasicEntry::Horn(s) => s.count as u32,
+        BasicEntry::TwoCnf(s) => s.count as u32,
     }
-    if kind < 3 {
-        return 64;
-    }
-    count
 }
 
-// Clause i of a leaf.
-pub fn clause_at(file: &[u8], init: u64, goal: u64, kind: u32, at: u32, i: u32) -> Clause
-    requires { ⌜ (kind < 3 → i < 64) ⌝ }
-    ensures { λ r. ⌜ r ≡ clauseAt (now (file .entry)) init goal kind at i ⌝ }
+// Where the clauses of a set stand in the file, where they do.
+pub enum Words {
+    Absent,
+    At(Span),
+}
+
+// Where a set's clauses stand.
+pub fn words_of(set: BasicEntry) -> Words
+    ensures { λ r. ⌜ r ≡ wordsOf set ⌝ }
 {
-    if kind == 0 {
-        return Clause {
-            positive: 0,
-            negative: 0,
-        };
+    match set {
+        BasicEntry::Empty => Words::Absent,
+        BasicEntry::Init => Words::Absent,
+        BasicEntry::Goal => Words::Absent,
+        BasicEntry::Explicit(_) => Words::Absent,
+        BasicEntry::Horn(s) => Words::At(s),
+        BasicEntry::TwoCnf(s) => Words::At(s),
     }
-    if kind == 1 {
-        return same_as(init, i);
+}
+
+// The clause that no state meets.
+fn no_literal() -> Clause
+    ensures { λ r. ⌜ r ≡ record { positive = 0; negative = 0 } ⌝ }
+{
+    Clause {
+        positive: 0,
+        negative: 0,
     }
-    if kind == 2 {
-        return on_in(goal, i);
+}
+
+// Clause i of a set whose clauses do not stand in the file.
+fn own_clause(ends: Ends, set: BasicEntry, i: u32) -> Clause
+    requires { ⌜ i < clauseCount set ⌝ }
+    ensures { λ r. ⌜ r ≡ ownClause ends set i ⌝ }
+{
+    match set {
+        BasicEntry::Empty => no_literal(),
+        BasicEntry::Init => same_as(ends.init, i),
+        BasicEntry::Goal => on_in(ends.goal, i),
+        BasicEntry::Explicit(_) => no_literal(),
+        BasicEntry::Horn(_) => no_literal(),
+        BasicEntry::TwoCnf(_) => no_literal(),
     }
-    words_at(file, at, i)
+}
+
+// Clause i of a set.
+pub fn clause_at(file: &[u8], ends: Ends, set: BasicEntry, i: u32) -> Clause
+    requires { ⌜ i < clauseCount set ⌝ }
+    ensures { λ r. ⌜ r ≡ clauseOf (now (file .entry)) ends set i ⌝ }
+{
+    match words_of(set) {
+        Words::At(s) => words_at(file, s.at, i),
+        Words::Absent => own_clause(ends, set, i),
+    }
 }
 
 // What an action does to clauses: what it adds, what it deletes for good, and what it changes.
@@ -131,6 +174,13 @@ pub fn effect_of(a: Action, through: bool) -> Effect
     }
 }
 
+// Whether an action meets a clause by what it adds or deletes.
+fn is_met(by: Effect, c: Clause) -> bool
+    ensures { λ r. ⌜ r ≡ metBy by c ⌝ }
+{
+    (c.positive & by.add != 0) | (c.negative & by.gone != 0)
+}
+
 // A clause of the state after an action, as a clause of the state before it: what the action changes is struck out, and
 // one that the action meets is met by every state. That nothing changes is told first, for the leaves that are asked about the
 // state before the action.
@@ -140,7 +190,7 @@ pub fn pulled(by: Effect, c: Clause) -> Clause
     if by.add | by.gone | by.changed == 0 {
         return c;
     }
-    if (c.positive & by.add != 0) | (c.negative & by.gone != 0) {
+    if is_met(by, c) {
         return Clause {
             positive: 1,
             negative: 1,
@@ -248,24 +298,15 @@ fn pass_touched(
     x
 }
 
-// A look at each clause of a leaf of any kind.
-fn pass_any(
-    file: &[u8],
-    init: u64,
-    goal: u64,
-    kind: u32,
-    at: u32,
-    count: u32,
-    by: Effect,
-    start: Assignment,
-) -> Assignment
-    ensures { λ r. ⌜ Passed true (Below (ofKind (now (file .entry)) init goal kind at by) (clauseCount kind count)) start r ⌝ }
+// A look at each clause of a set whose clauses do not stand in the file.
+fn pass_own(ends: Ends, set: BasicEntry, by: Effect, start: Assignment) -> Assignment
+    ensures { λ r. ⌜ Passed true (Below (ofOwn ends set by) (clauseCount set)) start r ⌝ }
 {
-    let many = clause_count(kind, count);
+    let many = clause_count(set);
     let mut x = start;
     let mut i = 0u32;
     while i < many {
-        let c = pulled(by, clause_at(file, init, goal, kind, at, i));
+        let c = pulled(by, own_clause(ends, set, i));
         x = unit(x, c);
         if x.conflict {
             return x;
@@ -275,53 +316,68 @@ fn pass_any(
     x
 }
 
-// What stays the same while one action is looked at: the task's initial state and goal, how many left leaves there are,
-// whether they are two-literal or Horn, and the action.
-pub struct Case {
-    pub init: u64,
-    pub goal: u64,
+// A look at each clause of a span, or at those that a base leaves in doubt.
+fn pass_span(
+    file: &[u8],
+    s: Span,
+    by: Effect,
+    two: bool,
+    full: bool,
+    base: Assignment,
+    x: Assignment,
+) -> Assignment
+    requires { ⌜ s .at + 16 * s .count ≤ length (now file) ⌝ }
+    requires { ⌜ Based two (Below (ofWords (now file) (s .at) by) (s .count)) full base x ⌝ }
+    ensures { λ r. ⌜ Passed two (Below (ofWords (now (file .entry)) (s .at) by) (s .count)) x r ⌝ }
+{
+    let at = s.at;
+    let count = s.count as u32;
+    if full {
+        return pass_words(file, at, count, by, x);
+    }
+    pass_touched(file, at, count, by, two, base, x)
+}
+
+// What stays the same while one action is looked at: the task's ends, how many left leaves there are, whether they are
+// two-literal or Horn, and the action.
+pub struct Setting {
+    pub ends: Ends,
     pub m: usize,
     pub two: bool,
     pub action: Action,
 }
 
-// A look at each clause of leaf j.
+// A look at each clause of a leaf.
 fn pass_leaf(
     file: &[u8],
-    leaves: &[u32],
-    k: Case,
-    j: usize,
+    k: Setting,
+    leaf: Leaf,
     full: bool,
     base: Assignment,
     x: Assignment,
 ) -> Assignment
-    requires { ⌜ RoomAt (now file) (now leaves) j ⌝ }
-    requires { ⌜ Based (k .two) (LeafOf (now file) (now leaves) k j) full base x ⌝ }
-    ensures { λ r. ⌜ Passed (k .two) (LeafOf (now (file .entry)) (now (leaves .entry)) k j) x r ⌝ }
+    requires { ⌜ Clausal (now file) (k .two) leaf ⌝ }
+    requires { ⌜ Based (k .two) (OfLeaf (now file) (k .ends) (k .action) leaf) full base x ⌝ }
+    ensures { λ r. ⌜ Passed (k .two) (OfLeaf (now (file .entry)) (k .ends) (k .action) leaf) x r ⌝ }
 {
-    let kind = leaves[4 * j];
-    let at = leaves[4 * j + 1];
-    let count = leaves[4 * j + 2];
-    let by = effect_of(k.action, leaves[4 * j + 3] == 1);
-    if kind < 3 {
-        return pass_any(file, k.init, k.goal, kind, at, count, by, x);
+    let by = effect_of(k.action, leaf.after);
+    let set = leaf.set;
+    match words_of(set) {
+        Words::At(s) => pass_span(file, s, by, k.two, full, base, x),
+        Words::Absent => pass_own(k.ends, set, by, x),
     }
-    if full {
-        return pass_words(file, at, count, by, x);
-    }
-    pass_touched(file, at, count, by, k.two, base, x)
 }
 
 // A look at each clause of the left leaves.
 fn pass(
     file: &[u8],
-    left: &[u32],
-    k: Case,
+    left: &[u64],
+    k: Setting,
     full: bool,
     base: Assignment,
     start: Assignment,
 ) -> Assignment
-    requires { ⌜ Roomy (now file) (now left) (k .m) ⌝ }
+    requires { ⌜ Usable (now file) (now left) (k .m) (k .two) ⌝ }
     requires { ⌜ Based (k .two) (LeftOf (now file) (now left) k) full base start ⌝ }
     ensures { λ r. ⌜ Passed (k .two) (LeftOf (now (file .entry)) (now (left .entry)) k) start r ⌝ }
 {
@@ -329,7 +385,7 @@ fn pass(
     let mut x = start;
     let mut j = 0;
     while j < m {
-        x = pass_leaf(file, left, k, j, full, base, x);
+        x = pass_leaf(file, k, leaf_at(left, j), full, base, x);
         if x.conflict {
             return x;
         }
@@ -348,13 +404,13 @@ pub fn alike(two: bool, x: Assignment, y: Assignment) -> bool
 // Looks until nothing changes, or up to a conflict. Only the first look may be a full one: each later one rests on the one before it.
 pub fn solve(
     file: &[u8],
-    left: &[u32],
-    k: Case,
+    left: &[u64],
+    k: Setting,
     full: bool,
     base: Assignment,
     start: Assignment,
 ) -> Assignment
-    requires { ⌜ Roomy (now file) (now left) (k .m) ⌝ }
+    requires { ⌜ Usable (now file) (now left) (k .m) (k .two) ⌝ }
     requires { ⌜ Based (k .two) (LeftOf (now file) (now left) k) full base start ⌝ }
     ensures { λ r. ⌜ Solved (k .two) (LeftOf (now (file .entry)) (now (left .entry)) k) start r ⌝ }
 {

@@ -4,24 +4,27 @@ use mathlib.Core.Path.{_≡_, refl, sym, ap, subst, _∙_}
 use Prim.Native.Nat.{ℕ, zero, suc, _-_}
 use native.Mathlib.Omega.{arith}
 use mathlib.Core.Bool.{Bool, true, false, _||_}
-use mathlib.Core.List.{List, [], _∷_}
+use mathlib.Core.List.{List}
 use lib.ListN.{length}
 use lib.Dec.{T}
-use denote.Enum.Declared.{tagOf}
-use types.Run.{OneOf, miss}
-use Rattle.certificate.specs.declared.Places.{Places}
+use Rattle.task.specs.declared.Ends.{Ends}
+use Rattle.task.specs.Inner.{endsOf}
+use Rattle.certificate.specs.declared.BasicEntry.{BasicEntry}
 use Rattle.certificate.specs.declared.StateEntry.{StateEntry}
-use Rattle.meaning.specs.File.{Basic, StateSet, basic, complement, intersection, union, progression, regression, File, stateSetAt}
+use Rattle.certificate.specs.declared.StateEntry.the-variants.{Basic}
+use Rattle.meaning.specs.File.{StateSet, basic, complement, intersection, union, progression, regression, File, stateSetAt}
 use Rattle.certificate.specs.Views.{viewOf}
-use Rattle.certificate.specs.Known.{Known, decoded, statePlace}
+use Rattle.certificate.specs.Index.{statePlace}
+use Rattle.certificate.specs.Known.{Known, decoded}
 use Rattle.meaning.specs.Writing.{FitsStateSet}
-use Rattle.certificate.proofs.StateEntry.{the-type}
 use Rattle.meaning.proofs.Order.{state-set-fits}
 use Rattle.certificate.proofs.SeenLaws.{StateSeen, view-seen}
-use Rattle.certificate.proofs.KnownLaws.{known-ordered, known-read, known-action-sets}
+use Rattle.certificate.proofs.KnownLaws.{read-ordered, read-file}
 use Rattle.meaning.specs.Sets.{rounds, stateNode, inSet}
 use Rattle.meaning.proofs.Nodes.{in-node}
-use Rattle.inclusion.proofs.FlatHolds.{items-at}
+use Rattle.leaves.specs.Leaves.{basicIn, setOf}
+use Rattle.leaves.specs.Holds.{setHolds, Orderly}
+use Rattle.leaves.proofs.KnownLeaves.{basic-entry, known-items, known-holds, known-orderly}
 use Rattle.meaning.specs.Question.{progressionNode, hasProgression, shallowNode, shallow}
 use Rattle.meaning.proofs.Shallow.{progression-node}
 
@@ -47,20 +50,7 @@ clear f (union a b) h = neither (hasProgression f a) (hasProgression f b) h
 clear f (progression a b) h = subst T h tt
 clear f (regression a b) h = h
 
--- the tags of kinds 0 to 5
-abbrev pub leafTags : List ℕ
-leafTags = 0 ∷ 1 ∷ 2 ∷ 3 ∷ 4 ∷ 5 ∷ []
-
-leaf-told : (p : ℕ) (x : StateSet) → OneOf leafTags (tagOf the-type (viewOf p x)) → (b : Basic) × (x ≡ basic b)
-unfolding viewOf
-leaf-told p (basic b) h = (b, refl)
-leaf-told p (complement a) h = absurd (miss leafTags 6 tt h)
-leaf-told p (intersection a b) h = absurd (miss leafTags 7 tt h)
-leaf-told p (union a b) h = absurd (miss leafTags 8 tt h)
-leaf-told p (progression a b) h = absurd (miss leafTags 9 tt h)
-leaf-told p (regression a b) h = absurd (miss leafTags 10 tt h)
-
-module _ (bytes : List ℕ) (at : Places) (index : List ℕ) (k : Known bytes at index) (e : ℕ) where
+module _ (bytes : List ℕ) (index : List ℕ) (k : Known bytes index) (e : ℕ) where
   abbrev f : File
   f = decoded bytes
 
@@ -71,11 +61,21 @@ module _ (bytes : List ℕ) (at : Places) (index : List ℕ) (k : Known bytes at
     pub seen : (w : StateEntry) → v ≡ w → StateSeen bytes w (stateSetAt f e)
     seen w z =
         subst (λ (y : StateEntry). StateSeen bytes y (stateSetAt f e)) (sym q ∙ z)
-        (view-seen bytes (statePlace index e) (stateSetAt f e) (items-at bytes at index k e))
+        (view-seen bytes (statePlace index e) (stateSetAt f e) (known-items bytes index k e))
 
-    -- none of kinds 6 to 10
-    pub leaf-seen : OneOf leafTags (tagOf the-type v) → (b : Basic) × (stateSetAt f e ≡ basic b)
-    leaf-seen h = leaf-told (statePlace index e) (stateSetAt f e) (subst (λ (y : StateEntry). OneOf leafTags (tagOf the-type y)) q h)
+    -- a basic set may be asked, and holds what the entry does
+    module _ (b : BasicEntry) (z : v ≡ Basic b) where
+      as-set : setOf index f e ≡ b
+      unfolding setOf basicIn
+      as-set = ap basicIn (sym q ∙ z)
+
+      pub set-orderly : Orderly bytes b
+      set-orderly = subst (Orderly bytes) as-set (known-orderly bytes index k e)
+
+      pub set-in : (ends : Ends) → ends ≡ endsOf (f .task) → (s : ℕ) → setHolds bytes ends b s ≡ inSet f e s
+      set-in ends t s =
+          let w = seen (Basic b) z in
+          rw (t, ← as-set) (known-holds bytes index k e s (basic-entry f e (w .0) (w .1)))
 
   -- ---- by the entry: its depth, what is clear beneath it, and what it holds
 
@@ -86,13 +86,11 @@ module _ (bytes : List ℕ) (at : Places) (index : List ℕ) (k : Known bytes at
     shallow-at (suc d) n = let p : suc d - 1 ≡ d = omega arith in rw (z, p) refl
 
     pub clear-at : hasProgression f e ≡ false → Clear f x
-    clear-at h = clear f x (sym (progression-node f (known-ordered bytes at index k) e ∙ ap (progressionNode (hasProgression f)) z) ∙ h)
+    clear-at h = clear f x (sym (progression-node f (read-ordered bytes (k .read)) e ∙ ap (progressionNode (hasProgression f)) z) ∙ h)
 
     pub in-at : (s : ℕ) → inSet f e s ≡ stateNode f (inSet f) x s
-    in-at s = ap (λ (X : ℕ → Bool). X s) (in-node f (known-ordered bytes at index k) e) ∙ ap (λ (y : StateSet). stateNode f (inSet f) y s) z
+    in-at s = ap (λ (X : ℕ → Bool). X s) (in-node f (read-ordered bytes (k .read)) e) ∙ ap (λ (y : StateSet). stateNode f (inSet f) y s) z
 
     -- what it names comes earlier, and is known
-    pub fits-at : FitsStateSet (f .task .facts) (at .«action_sets») e x
-    fits-at =
-        subst (λ (m : ℕ). FitsStateSet (f .task .facts) m e x) (sym (known-action-sets bytes at index k))
-        (subst (FitsStateSet (f .task .facts) (length (f .actionSets)) e) z (state-set-fits bytes f (known-read bytes at index k) e))
+    pub fits-at : FitsStateSet (f .task .facts) (length (f .actionSets)) e x
+    fits-at = subst (FitsStateSet (f .task .facts) (length (f .actionSets)) e) z (state-set-fits bytes f (read-file bytes (k .read)) e)

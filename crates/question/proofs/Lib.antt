@@ -1,4 +1,3 @@
 pub mod AskLaws
-pub mod AskedLeaves
 pub mod TriedLaws
 pub mod AskableLaws

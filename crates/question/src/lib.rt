@@ -1,62 +1,66 @@
 // The question whether a state is in an entry's set.
 use actions::action_marks;
 use actions::marks::is_marked;
+use certificate::Index;
 use certificate::Outline;
 use certificate::Places;
 use certificate::StateEntry;
-use certificate::known::action;
-use certificate::known::state_set;
-use certificate::views::index_file;
+use certificate::lookup::action;
+use certificate::lookup::action_count;
+use certificate::lookup::state_set;
+use certificate::views::index_of;
 use layout::read_layout;
-use listed::leaf_holds;
+use listed::set_holds;
 use meaning::Answer;
+use task::Ends;
 use task::after;
+use task::all_facts;
 use task::applies;
-use trees::node_of;
 ghost use mathlib.Core.Path.{_≡_};
 ghost use mathlib.Core.Bool.{false};
-ghost use Prim.Native.Nat.{_<_, _^_};
-ghost use lib.Dec.{ltb};
-ghost use Rattle.certificate.specs.Known.{Known, decoded};
+ghost use Prim.Native.Nat.{_<_};
+ghost use lib.ListN.{length};
+ghost use Rattle.task.specs.Inner.{endsOf};
+ghost use Rattle.certificate.specs.Known.{Known, Placed, decoded};
 ghost use Rattle.meaning.specs.Sets.{inActions, regressed, inSet};
 ghost use Rattle.meaning.specs.Question.{hasProgression, shallow, askable, answerOf};
 ghost use Rattle.question.specs.Asked.{answerIn};
 
 // Whether an entry is at most d levels deep, with no progression on the way.
-fn is_shallow(file: &[u8], at: Places, index: &[u16; 768], e: u16, d: u8) -> bool
-    requires { ⌜ Known (now file) at (now index) ⌝ }
+fn is_shallow(file: &[u8], index: &Index, e: u16, d: u8) -> bool
+    requires { ⌜ Known (now file) (now index) ⌝ }
     ensures { λ r. ⌜ r ≡ shallow (decoded (now (file .entry))) e d ⌝ }
 {
     if d == 0 {
         return false;
     }
-    match state_set(file, at, index, e) {
-        StateEntry::Complement(a) => is_shallow(file, at, index, a, d - 1),
+    match state_set(file, index, e) {
+        StateEntry::Basic(_) => true,
+        StateEntry::Complement(a) => is_shallow(file, index, a, d - 1),
         StateEntry::Intersection(a, b) => {
-            is_shallow(file, at, index, a, d - 1) & is_shallow(file, at, index, b, d - 1)
+            is_shallow(file, index, a, d - 1) & is_shallow(file, index, b, d - 1)
         }
         StateEntry::Union(a, b) => {
-            is_shallow(file, at, index, a, d - 1) & is_shallow(file, at, index, b, d - 1)
+            is_shallow(file, index, a, d - 1) & is_shallow(file, index, b, d - 1)
         }
         StateEntry::Progression(_, _) => false,
-        StateEntry::Regression(a, _) => is_shallow(file, at, index, a, d - 1),
-        _ => true,
+        StateEntry::Regression(a, _) => is_shallow(file, index, a, d - 1),
     }
 }
 
 // Whether some action of set a applies in a state and leads into the set of entry e.
-fn try_each_action(file: &[u8], at: Places, index: &[u16; 768], e: u16, a: u16, s: u64) -> bool
-    requires { ⌜ Known (now file) at (now index) ⌝ }
-    requires { ⌜ (hasProgression (decoded (now file)) e ≡ false) × (a < at .«action_sets») ⌝ }
+fn try_each_action(file: &[u8], index: &Index, ends: Ends, e: u16, a: u16, s: u64) -> bool
+    requires { ⌜ Known (now file) (now index) × (ends ≡ endsOf (decoded (now file) .task)) ⌝ }
+    requires { ⌜ (hasProgression (decoded (now file)) e ≡ false) × (a < length (decoded (now file) .actionSets)) ⌝ }
     ensures { λ r. ⌜ r ≡ regressed (decoded (now (file .entry)) .task) (inSet (decoded (now (file .entry))) e) (inActions (decoded (now (file .entry))) a) s ⌝ }
 {
-    let marks = action_marks(file, at, index, a);
-    let count = at.actions;
+    let marks = action_marks(file, index, a);
+    let count = action_count(file);
     let mut i = 0u16;
     while i < count {
-        let act = action(file, at, index, i);
+        let act = action(file, i);
         if is_marked(marks, i) & applies(act, s) {
-            if member(file, at, index, e, after(act, s)) {
+            if member(file, index, ends, e, after(act, s)) {
                 return true;
             }
         }
@@ -66,56 +70,40 @@ fn try_each_action(file: &[u8], at: Places, index: &[u16; 768], e: u16, a: u16, 
 }
 
 // Whether a state is in the set of entry e, where no progression is at or beneath the entry.
-fn member(file: &[u8], at: Places, index: &[u16; 768], e: u16, s: u64) -> bool
-    requires { ⌜ Known (now file) at (now index) ⌝ }
+fn member(file: &[u8], index: &Index, ends: Ends, e: u16, s: u64) -> bool
+    requires { ⌜ Known (now file) (now index) × (ends ≡ endsOf (decoded (now file) .task)) ⌝ }
     requires { ⌜ hasProgression (decoded (now file)) e ≡ false ⌝ }
     ensures { λ r. ⌜ r ≡ inSet (decoded (now (file .entry))) e s ⌝ }
 {
-    let entry = state_set(file, at, index, e);
-    match entry {
-        StateEntry::Complement(a) => !member(file, at, index, a, s),
+    match state_set(file, index, e) {
+        StateEntry::Basic(b) => set_holds(file, ends, b, s),
+        StateEntry::Complement(a) => !member(file, index, ends, a, s),
         StateEntry::Intersection(a, b) => {
-            member(file, at, index, a, s) & member(file, at, index, b, s)
+            member(file, index, ends, a, s) & member(file, index, ends, b, s)
         }
-        StateEntry::Union(a, b) => member(file, at, index, a, s) | member(file, at, index, b, s),
+        StateEntry::Union(a, b) => {
+            member(file, index, ends, a, s) | member(file, index, ends, b, s)
+        }
         StateEntry::Progression(_, _) => false,
-        StateEntry::Regression(a, b) => try_each_action(file, at, index, a, b, s),
-        _ => {
-            let x = node_of(entry);
-            leaf_holds(
-                file,
-                at.init,
-                at.goal,
-                x.kind as u32,
-                x.at,
-                x.count as u32,
-                s,
-            )
-        }
+        StateEntry::Regression(a, b) => try_each_action(file, index, ends, a, b, s),
     }
 }
 
-// Whether a state has no fact of n or above.
-fn has_facts_below(n: u8, s: u64) -> bool
-    ensures { λ r. ⌜ r ≡ ltb s (2 ^ n) ⌝ }
-{
-    if n < 64 { s >> n == 0 } else { true }
-}
-
 // Whether a state may be asked about an entry.
-fn is_askable(file: &[u8], at: Places, index: &[u16; 768], entry: u64, state: u64) -> bool
-    requires { ⌜ Known (now file) at (now index) ⌝ }
+fn is_askable(file: &[u8], at: Places, index: &Index, entry: u64, state: u64) -> bool
+    requires { ⌜ Placed (now file) at × Known (now file) (now index) ⌝ }
     ensures { λ r. ⌜ r ≡ askable (decoded (now (file .entry))) entry state ⌝ }
 {
     if at.state_sets as u64 <= entry {
         return false;
     }
-    has_facts_below(at.facts, state) & is_shallow(file, at, index, entry as u16, 4)
+    let ends = at.ends;
+    (state <= all_facts(ends.facts)) & is_shallow(file, index, entry as u16, 4)
 }
 
 // The answer about a file that was read.
-fn answer(file: &[u8], at: Places, index: &[u16; 768], entry: u64, state: u64) -> Answer
-    requires { ⌜ Known (now file) at (now index) ⌝ }
+fn answer(file: &[u8], at: Places, index: &Index, entry: u64, state: u64) -> Answer
+    requires { ⌜ Placed (now file) at × Known (now file) (now index) ⌝ }
     ensures { λ r. ⌜ r ≡ answerIn (decoded (now (file .entry))) entry state ⌝ }
 {
     if !is_askable(file, at, index, entry, state) {
@@ -124,7 +112,7 @@ fn answer(file: &[u8], at: Places, index: &[u16; 768], entry: u64, state: u64) -
             place: 0,
         };
     }
-    if member(file, at, index, entry as u16, state) {
+    if member(file, index, at.ends, entry as u16, state) {
         Answer::In
     } else {
         Answer::Out
@@ -139,8 +127,7 @@ pub fn ask(file: &[u8], entry: u64, state: u64) -> Answer
     match read_layout(file) {
         Outline::Refused { number, place } => Answer::Refused { number, place },
         Outline::Lawful(at) => {
-            let mut index = [0u16; 768];
-            index_file(file, at, &mut index);
+            let index = index_of(file, at);
             answer(file, at, &index, entry, state)
         }
     }

@@ -1,6 +1,6 @@
 -- The statement by its rule: what `gather` promises.
 -- Assumes nothing.
-use mathlib.Core.Path.{_≡_, refl, sym, ap, _∙_, subst}
+use mathlib.Core.Path.{_≡_, sym, ap, _∙_, subst}
 use mathlib.Core.Logic.{inl, inr}
 use Prim.Native.Nat.{ℕ, _+_, _≤_}
 use native.Mathlib.Omega.{arith}
@@ -9,26 +9,24 @@ use mathlib.Core.List.{List, _++_}
 use lib.ListN.{length}
 use lib.Dec.{T, eqb, eqb→eq, leb}
 use Rattle.task.specs.Reach.{member, every}
-use Rattle.task.proofs.Tests.{and-left, excluded, never, same, holds}
+use Rattle.task.proofs.Tests.{and-left, excluded, never, same, holds, is-false}
 use Rattle.meaning.specs.File.{File}
-use Rattle.meaning.specs.Shapes.{Sides, isLiteral, isComplement, literalKind, mixed, movedLeft, bracket, ofLiterals, ofClauses, ofStates, permitted, shape₄}
+use Rattle.meaning.specs.Shapes.{Sides, isLiteral, isComplement, literalKind, mixed, movedLeft, bracket, ofLiterals, ofClauses, ofStates}
+use Rattle.meaning.specs.Shapes.{permitted, shape₄}
 use Rattle.shapes.specs.Gathered.{shapeOf, sidesOf, Gathers}
 use Rattle.shapes.specs.declared.sorts.Counts.{Counts}
 use Rattle.shapes.specs.declared.parts.Parts.{Parts}
 use Rattle.shapes.specs.declared.shape.Gathered.{Gathered}
-use Rattle.shapes.specs.Decided.{clausesBy, statesBy, pairBy, permitsBy, Decided, sidesIn, Parted, anchorsOf, literalsOf, Filled, Zeros}
+use Rattle.shapes.specs.Summary.{clausesBy, statesBy, pairBy, permitsBy, Summary, sidesIn, Parted, anchorsOf, literalsOf, Filled}
+use Rattle.shapes.specs.Summary.{Zeros}
 use Rattle.trees.proofs.TreeLaws.{count-list}
-use Rattle.shapes.proofs.DecideLaws.{permits-pair, permits-sorts}
+use Rattle.shapes.proofs.SummaryLaws.{permits-pair, permits-sorts}
 use Rattle.shapes.proofs.KindLaws.{hit}
 use Rattle.shapes.proofs.ShapeLaws.{permitted-by, pairSides, paired-by}
 use Rattle.shapes.proofs.SortLaws.{clash, sorted, sorted-pair, pair-few, pair-anchor}
 use Rattle.shapes.proofs.GatherLaws.{flagsBy, countBy, SortedBy, permits-are, gathers}
 
 -- ---- what is not permitted
-
-is-false : (b : Bool) → (T b → ⊥) → b ≡ false
-is-false true h = absurd (h tt)
-is-false false h = refl
 
 two-literals : (i j : Bool) → T (i && true && true && (j && true)) → T i × T j
 two-literals true true t = (tt, tt)
@@ -46,12 +44,14 @@ module _ (f : File) (a b : ℕ) where
   permitted-literals anchors y t =
       let l : Bool = leb (length (y .outer) + length (y .inner)) 8 in
       let r : Bool = leb (length (y .right)) 8 in
-      and-left (literalsOf f y) l (and-left (literalsOf f y && l) r (and-left (ofLiterals f y) (ofClauses f y || ofStates f (anchors y) y) t))
+      and-left (literalsOf f y) l (and-left (literalsOf f y && l) r
+      (and-left (ofLiterals f y) (ofClauses f y || ofStates f (anchors y) y) t))
 
   -- rule 4
   pair-literals : T (shape₄ f a b) → T (literalsOf f (pairSides f a b))
   unfolding literalsOf every shape₄
-  pair-literals t = literals-two (isLiteral f a) (isLiteral f b) (mixed f (literalKind f a) (isComplement f a) (literalKind f b) (isComplement f b)) t
+  pair-literals t =
+      literals-two (isLiteral f a) (isLiteral f b) (mixed f (literalKind f a) (isComplement f a) (literalKind f b) (isComplement f b)) t
 
   literal-pair : literalsOf f (pairSides f a b) ≡ true → T (isLiteral f a) × T (isLiteral f b)
   unfolding literalsOf every
@@ -72,7 +72,8 @@ module _ (f : File) (rule a b : ℕ) (p : Parts) (part : Parted f rule a b p) wh
   not-literals ok l =
       sym (is-false (shapeOf f rule a b) (λ t.
       clash (literalsOf f (sidesOf f rule a b))
-      (by-rule (λ e. pair-shape-literals e t) (λ n. permitted-literals f a b (anchorsOf f rule) (sidesOf f rule a b) (subst T (part .shape ok n) t)))
+      (by-rule (λ e. pair-shape-literals e t)
+      (λ n. permitted-literals f a b (anchorsOf f rule) (sidesOf f rule a b) (subst T (part .shape ok n) t)))
       (ap (literalsOf f) (sym (part .good ok .sides)) ∙ l)))
 
 -- ---- what is
@@ -93,7 +94,7 @@ module _ (f : File) (index : List ℕ) (rule a b : ℕ) (p : Parts) (part : Part
 
   module _ (lit : literalsOf f (sidesIn p) ≡ true) (left₀ left right₀ right : List ℕ) (n : Counts)
       (fill : Filled f index (eqb rule 2) (sidesIn p) left₀ left right₀ right n) (zeros : Zeros right₀)
-      (r : Gathered) (dec : Decided rule left right n (p .actions) r) where
+      (r : Gathered) (dec : Summary rule left right n (p .actions) r) where
     lit′ : literalsOf f x ≡ true
     lit′ = subst (λ (y : Sides). literalsOf f y ≡ true) sides lit
 
@@ -137,7 +138,8 @@ module _ (f : File) (index : List ℕ) (rule a b : ℕ) (p : Parts) (part : Part
       shape-pair = pair ∙ sym (paired lit′ .0)
 
       sorted-four : r .permitted ≡ true → SortedBy f rule x
-      sorted-four e = sorted-pair (flagsBy f x) (countBy f x) (hit (anchorsOf f rule x)) (holds (sym pair ∙ e)) (paired lit′ .1) (paired lit′ .2)
+      sorted-four e =
+          sorted-pair (flagsBy f x) (countBy f x) (hit (anchorsOf f rule x)) (holds (sym pair ∙ e)) (paired lit′ .1) (paired lit′ .2)
 
     pub shape-right : r .permitted ≡ shapeOf f rule a b
     shape-right = by-rule f rule a b p part shape-pair shape-sorts

@@ -1,25 +1,36 @@
--- What stands in an array of leaves, number by number: kinds, which of them occur, and the anchor.
+-- What stands in an array of leaves, leaf by leaf: kinds, which of them occur, and the anchor.
 -- Assumes nothing.
 use mathlib.Core.Path.{_≡_, refl, sym, ap, _∙_, subst}
 use mathlib.Core.Logic.{inl, inr}
-use Prim.Native.Nat.{ℕ, zero, suc, _+_, _-_, _*_, _≤_, _<_}
+use Prim.Native.Nat.{ℕ, zero, suc, _+_, _-_, _≤_, _<_}
 use native.Mathlib.Nat.{not-suc-le-zero, le-of-suc-le-suc}
 use native.Mathlib.Omega.{arith}
-use mathlib.Core.Bool.{Bool, false, _||_, or-assoc}
-use mathlib.Core.List.{List, [], _∷_, _++_}
+use mathlib.Core.Bool.{Bool, _||_, or-assoc}
+use mathlib.Core.List.{List, [], _∷_, _++_, map}
 use lib.ListN.{length, take, getD, length-map}
-use lib.Dec.{T, eqb, eqb→eq, ltb, ltb→lt, nltb→le}
+use lib.Seq.{getD-take}
+use lib.Dec.{T, eqb, eqb→eq, leb, ltb, ltb→lt, nltb→le}
+use denote.Enum.Declared.{tagOf}
+use types.Run.{OneOf, miss}
 use Rattle.task.specs.Reach.{member}
 use Rattle.task.proofs.Tests.{both-ways, or-left, or-right, or-cases, excluded, same, member-first, member-rest, member-cases, member-none}
-use Rattle.meaning.specs.File.{File}
-use Rattle.meaning.specs.Shapes.{kindAt}
-use Rattle.trees.specs.Counter.{Leaf}
-use Rattle.trees.specs.Flat.{flag, flatOf}
-use Rattle.shapes.specs.Gathered.{kindsOf}
+use Rattle.meaning.specs.File.{File, StateSet, basic, complement, intersection, union, progression, regression, stateSetAt, stateKind}
+use Rattle.meaning.specs.Shapes.{kindAt, isBasic}
+use Rattle.counterexample.specs.Counter.{Asked}
+use Rattle.certificate.specs.declared.BasicEntry.{BasicEntry}
+use Rattle.certificate.specs.declared.BasicEntry.the-variants.{Empty, Init, Goal, Explicit, Horn, TwoCnf}
+use Rattle.certificate.specs.declared.StateEntry.{StateEntry}
+use Rattle.certificate.specs.declared.StateEntry.the-variants.{Basic, Complement, Intersection, Union, Progression, Regression}
+use Rattle.certificate.proofs.StateEntry.{the-type}
+use Rattle.certificate.specs.Views.{viewOf}
+use Rattle.certificate.specs.Index.{statePlace}
+use Rattle.leaves.specs.declared.Leaf.{Leaf}
+use Rattle.leaves.specs.Leaves.{kindOf, unpacked, leafIn, leavesIn, basicIn, setOf}
+use Rattle.trees.proofs.NodeLaws.{basic-kind}
+use Rattle.shapes.specs.Gathered.{leafOf, mayAnchor, AllBasic, kindsOf}
 use Rattle.shapes.specs.Arrays.{Put}
-use Rattle.shapes.specs.Decided.{kindIn, mayAnchor, Anchor}
+use Rattle.shapes.specs.Summary.{kindIn, Anchor}
 use Rattle.meaning.proofs.Below.{some-at, some-of}
-use Rattle.trees.proofs.FlatLaws.{at-kind, at-flag}
 
 -- ---- a number in a list, by its index
 
@@ -39,71 +50,114 @@ member-index k (x ∷ xs) t =
 pub member-append : (k : ℕ) (xs ys : List ℕ) → member k (xs ++ ys) ≡ (member k xs || member k ys)
 unfolding member
 member-append k [] ys = refl
-member-append k (x ∷ xs) ys = ap (λ (b : Bool). eqb k x || b) (member-append k xs ys) ∙ sym (or-assoc (eqb k x) (member k xs) (member k ys))
+member-append k (x ∷ xs) ys =
+    ap (λ (b : Bool). eqb k x || b) (member-append k xs ys) ∙ sym (or-assoc (eqb k x) (member k xs) (member k ys))
 
 -- ---- leaves in an array
 
-module _ (index : List ℕ) (f : File) where
-  module _ (xs : List Leaf) (was is : List ℕ) (r : ℕ) (p : Put index f xs 0 was is r) where
-    pub put-length : r ≡ length xs
-    put-length = p .count ∙ omega arith
+getD-mapped : {A B : Type 0} (g : A → B) (xs : List A) (j : ℕ) (d : A) (e : B) → j < length xs → getD (map g xs) j e ≡ g (getD xs j d)
+getD-mapped g [] j d e l = absurd (not-suc-le-zero l)
+getD-mapped g (x ∷ xs) zero d e l = refl
+getD-mapped g (x ∷ xs) (suc j) d e l = getD-mapped g xs j d e (le-of-suc-le-suc l)
 
-    pub put-flat : take (4 * r) is ≡ flatOf index f xs
-    put-flat = p .written
+-- an entry with another constructor than that of kinds 0 to 5 reads as the empty set
+pub reads-empty : (x : StateEntry) → OneOf (1 ∷ 2 ∷ 3 ∷ 4 ∷ 5 ∷ []) (tagOf the-type x) → Empty ≡ basicIn x
+unfolding basicIn
+reads-empty (Basic b) h = absurd (miss (1 ∷ 2 ∷ 3 ∷ 4 ∷ 5 ∷ []) 0 tt h)
+reads-empty (Complement a) h = refl
+reads-empty (Intersection a b) h = refl
+reads-empty (Union a b) h = refl
+reads-empty (Progression a b) h = refl
+reads-empty (Regression a b) h = refl
 
-    pub kind-at : (d : Leaf) (j : ℕ) → j < r → getD is (4 * j) 0 ≡ kindAt f (getD xs j d .entry)
-    kind-at = at-kind index f is r xs put-length put-flat
+-- one of kinds 0 to 5 as a leaf's set has its kind
+pub set-kind : (index : List ℕ) (f : File) (e : ℕ) → T (isBasic f e) → kindOf (setOf index f e) ≡ kindAt f e
+unfolding setOf basicIn viewOf isBasic kindAt stateKind
+set-kind index f e t = go (stateSetAt f e) t
+  where
+    go : (x : StateSet) → T (leb (stateKind x) 5) → kindOf (basicIn (viewOf (statePlace index e) x)) ≡ stateKind x
+    go (basic b) h = basic-kind (statePlace index e) b
+    go (complement a) h = absurd h
+    go (intersection a b) h = absurd h
+    go (union a b) h = absurd h
+    go (progression a b) h = absurd h
+    go (regression a b) h = absurd h
 
-    pub through-at : (d : Leaf) (j : ℕ) → j < r → getD is (4 * j + 3) 0 ≡ flag (getD xs j d .through)
-    through-at = at-flag index f is r xs put-length put-flat
-
--- ---- kinds that occur
-
-pub getD-kinds : (f : File) (d : Leaf) (xs : List Leaf) (j : ℕ) → j < length xs → getD (kindsOf f xs) j 0 ≡ kindAt f (getD xs j d .entry)
-unfolding kindsOf
-getD-kinds f d [] j l = absurd (not-suc-le-zero l)
-getD-kinds f d (x ∷ xs) zero l = refl
-getD-kinds f d (x ∷ xs) (suc j) l = getD-kinds f d xs j (le-of-suc-le-suc l)
-
-pub length-kinds : (f : File) (xs : List Leaf) → length (kindsOf f xs) ≡ length xs
+pub length-kinds : (f : File) (xs : List Asked) → length (kindsOf f xs) ≡ length xs
 unfolding kindsOf
 length-kinds f xs = length-map xs (λ x. kindAt f (x .entry))
 
--- the first numbers of some leaves in a row are a list of kinds
+module _ (index : List ℕ) (f : File) where
+  leaf-kind : (xs : List Asked) → AllBasic f xs → (d : Asked) (j : ℕ) → j < length xs
+      → kindOf (leafOf index f (getD xs j d) .set) ≡ getD (kindsOf f xs) j 0
+  unfolding leafOf kindsOf
+  leaf-kind [] b d j l = absurd (not-suc-le-zero l)
+  leaf-kind (x ∷ xs) b d zero l = set-kind index f (x .entry) (b .0)
+  leaf-kind (x ∷ xs) b d (suc j) l = leaf-kind xs (b .1) d j (le-of-suc-le-suc l)
+
+  module _ (xs : List Asked) (was is : List ℕ) (r : ℕ) (p : Put index f xs 0 was is r) where
+    pub put-length : r ≡ length xs
+    put-length = p .count ∙ omega arith
+
+    pub put-leaves : leavesIn is r ≡ map (leafOf index f) xs
+    unfolding leavesIn
+    put-leaves = p .written
+
+    pub leaf-at : (d : Asked) (j : ℕ) → j < r → leafIn is j ≡ leafOf index f (getD xs j d)
+    unfolding leafIn leavesIn
+    leaf-at d j l =
+        let e : Leaf = leafOf index f d in
+        let n : length (take r is) ≡ length xs =
+        sym (length-map (take r is) unpacked) ∙ ap length put-leaves ∙ length-map xs (leafOf index f) in
+        let m = put-length in
+        ap unpacked (sym (getD-take r is j 0 l)) ∙ sym (getD-mapped unpacked (take r is) j 0 e (omega arith))
+        ∙ ap (λ (ys : List Leaf). getD ys j e) put-leaves ∙ getD-mapped (leafOf index f) xs j d e (omega arith)
+
+    pub kind-at : AllBasic f xs → (d : Asked) (j : ℕ) → j < r → kindOf (leafIn is j .set) ≡ getD (kindsOf f xs) j 0
+    kind-at b d j l =
+        let m = put-length in
+        ap (λ (x : Leaf). kindOf (x .set)) (leaf-at d j l) ∙ leaf-kind xs b d j (omega arith)
+
+-- ---- kinds that occur
+
+-- some leaves in a row have the kinds of a list
 abbrev pub Row : List ℕ → ℕ → List ℕ → Type 0
-Row is from ks = (i : ℕ) → i < length ks → getD is (4 * (from + i)) 0 ≡ getD ks i 0
+Row is from ks = (i : ℕ) → i < length ks → kindOf (leafIn is (from + i) .set) ≡ getD ks i 0
 
-pub row-all : (index : List ℕ) (f : File) (xs : List Leaf) (was is : List ℕ) (r : ℕ) → Put index f xs 0 was is r → Row is 0 (kindsOf f xs)
-row-all index f xs was is r p i l =
-    let d : Leaf = record { entry = 0; through = false } in
-    let g : i < length xs = omega (arith, length-kinds f xs) in
-    let m : 0 + i < r = omega (arith, put-length index f xs was is r p) in
-    let z : 0 + i ≡ i = omega arith in
-    kind-at index f xs was is r p d (0 + i) m ∙ ap (λ (j : ℕ). kindAt f (getD xs j d .entry)) z ∙ sym (getD-kinds f d xs i g)
-
-pub kind-in : (is ks : List ℕ) (n k : ℕ) → n ≡ length ks → Row is 0 ks → kindIn is n k ≡ member k ks
+pub kind-in : (is ks : List ℕ) (n k : ℕ) → n ≡ length ks → ((j : ℕ) → j < n → kindOf (leafIn is j .set) ≡ getD ks j 0)
+    → kindIn is n k ≡ member k ks
 unfolding kindIn
 kind-in is ks n k e row =
     both-ways (kindIn is n k) (member k ks)
     (λ t.
-    let w = some-at n (λ j. eqb (getD is (4 * j) 0) k) t in
-    let l : w .0 < length ks = omega (arith, w .1) in
-    let z : 4 * w .0 ≡ 4 * (0 + w .0) = omega arith in
-    subst (λ (m : ℕ). T (member m ks)) (sym (row (w .0) l) ∙ sym (ap (λ (i : ℕ). getD is i 0) z) ∙ eqb→eq _ k (w .2)) (member-at ks (w .0) l))
+    let w = some-at n (λ j. eqb (kindOf (leafIn is j .set)) k) t in
+    subst (λ (m : ℕ). T (member m ks)) (sym (row (w .0) (w .1)) ∙ eqb→eq _ k (w .2)) (member-at ks (w .0) (omega (arith, w .1))))
     (λ t.
     let w = member-index k ks t in
     let l : w .0 < n = omega (arith, w .1) in
-    let z : 4 * w .0 ≡ 4 * (0 + w .0) = omega arith in
-    some-of n (λ j. eqb (getD is (4 * j) 0) k) (w .0) l (same (ap (λ (i : ℕ). getD is i 0) z ∙ row (w .0) (w .1) ∙ w .2)))
+    some-of n (λ j. eqb (kindOf (leafIn is j .set)) k) (w .0) l (same (row (w .0) l ∙ w .2)))
 
 -- ---- the anchor
 
--- a kind with listed states is among these
+-- the kinds of sets whose states are listed
+abbrev listedKind : ℕ → Bool
+listedKind k = eqb k 0 || eqb k 1 || eqb k 3
+
+may-by-kind : (b : BasicEntry) → mayAnchor b ≡ listedKind (kindOf b)
+unfolding kindOf
+may-by-kind Empty = refl
+may-by-kind Init = refl
+may-by-kind Goal = refl
+may-by-kind (Explicit s) = refl
+may-by-kind (Horn s) = refl
+may-by-kind (TwoCnf s) = refl
+
+-- one of these kinds is among those of the list
 unfoldable pub hit : List ℕ → Bool
 hit ks = member 0 ks || member 1 ks || member 3 ks
 
-anchors-listed : (k : ℕ) (ks : List ℕ) → T (member k ks) → T (mayAnchor k) → T (hit ks)
-unfolding mayAnchor hit
+anchors-listed : (k : ℕ) (ks : List ℕ) → T (member k ks) → T (listedKind k) → T (hit ks)
+unfolding hit
 anchors-listed k ks m t =
     elim (or-cases (eqb k 0 || eqb k 1) (eqb k 3) t) [
       | inl u ↦ or-left (member 0 ks || member 1 ks) (member 3 ks) (elim (or-cases (eqb k 0) (eqb k 1) u) [
@@ -113,8 +167,8 @@ anchors-listed k ks m t =
       | inr e ↦ or-right (member 0 ks || member 1 ks) (member 3 ks) (subst (λ (j : ℕ). T (member j ks)) (eqb→eq k 3 e) m)
     ]
 
-listed-anchors : (ks : List ℕ) → T (hit ks) → (k : ℕ) × T (member k ks) × T (mayAnchor k)
-unfolding mayAnchor hit
+listed-anchors : (ks : List ℕ) → T (hit ks) → (k : ℕ) × T (member k ks) × T (listedKind k)
+unfolding hit
 listed-anchors ks t =
     elim (or-cases (member 0 ks || member 1 ks) (member 3 ks) t) [
       | inl u ↦ elim (or-cases (member 0 ks) (member 1 ks) u) [ inl m ↦ (0, m, tt) | inr m ↦ (1, m, tt) ]
@@ -130,14 +184,17 @@ anchor-found is ks from to r e row h =
     let i : ℕ = r - from in
     let z : from + i ≡ r = omega (arith, h .after) in
     let g : i < length ks = omega (arith, h .after) in
-    let q : getD is (4 * r) 0 ≡ getD ks i 0 = sym (ap (λ (j : ℕ). getD is (4 * j) 0) z) ∙ row i g in
-    anchors-listed (getD ks i 0) ks (member-at ks i g) (subst (λ (k : ℕ). T (mayAnchor k)) q (h .here l)))
+    let q : kindOf (leafIn is r .set) ≡ getD ks i 0 = sym (ap (λ (j : ℕ). kindOf (leafIn is j .set)) z) ∙ row i g in
+    let u : mayAnchor (leafIn is r .set) ≡ listedKind (getD ks i 0) = may-by-kind (leafIn is r .set) ∙ ap listedKind q in
+    anchors-listed (getD ks i 0) ks (member-at ks i g) (subst T u (h .here l)))
     (λ t.
     let w = listed-anchors ks t in
     let v = member-index (w .0) ks (w .1) in
-    let u : T (mayAnchor (getD is (4 * (from + v .0)) 0)) = subst (λ (k : ℕ). T (mayAnchor k)) (sym (row (v .0) (v .1) ∙ v .2)) (w .2) in
-    let g : from + v .0 < to = omega (arith, v .1) in
+    let at : ℕ = from + v .0 in
+    let q : kindOf (leafIn is at .set) ≡ w .0 = row (v .0) (v .1) ∙ v .2 in
+    let u : listedKind (w .0) ≡ mayAnchor (leafIn is at .set) = sym (may-by-kind (leafIn is at .set) ∙ ap listedKind q) in
+    let g : at < to = omega (arith, v .1) in
     elim (excluded (ltb r to)) [
       | inl y ↦ y
-      | inr n ↦ (let m : to ≤ r = nltb→le r to n in absurd (h .first (from + v .0) (omega arith) (omega arith) u))
+      | inr n ↦ (let m : to ≤ r = nltb→le r to n in absurd (h .first at (omega arith) (omega arith) (subst T u (w .2))))
     ])

@@ -1,4 +1,4 @@
--- The kinds of a counterexample's leaves are those that the shape looks at, and the leaves of a permitted shape are of kinds 0 to 5.
+-- The kinds of a statement's leaves are those that the shape looks at, and the leaves of a permitted shape are of kinds 0 to 5.
 -- Assumes nothing.
 use mathlib.Core.Path.{_≡_, refl, ap, ap₂, subst, sym, _∙_}
 use mathlib.Core.Logic.{inl, inr, Iff·rfl}
@@ -10,12 +10,13 @@ use lib.Dec.{T, eqb, eqb→eq, leb}
 use Rattle.task.specs.Reach.{every}
 use Rattle.task.proofs.Tests.{and-left, and-right, and-both, or-cases, not-of}
 use Rattle.meaning.specs.File.{File}
-use Rattle.meaning.specs.Shapes.{keep, theOnly, Sides, kindAt, child, isBasic, isComplement, isLiteral, literalKind, complements, others, movedLeft, movedRight, bracket}
-use Rattle.trees.specs.Counter.{Leaf, leftLeaves, rightLeaves}
-use Rattle.trees.proofs.Lists.{keep-cases, every-map, of-append}
-use Rattle.shapes.proofs.Moved.{leaf, under, plain, turned}
-use Rattle.trees.specs.Flat.{notEmpty}
-use Rattle.shapes.proofs.Filled.{kindOf, filled-count}
+use Rattle.meaning.specs.Shapes.{keep, theOnly, Sides, kindAt, child, isBasic, isComplement, isLiteral, literalKind, complements, others}
+use Rattle.meaning.specs.Shapes.{movedLeft, movedRight, bracket}
+use Rattle.counterexample.specs.Counter.{Asked, leftLeaves, rightLeaves}
+use Rattle.counterexample.proofs.Lists.{keep-cases, every-map, of-append}
+use Rattle.counterexample.proofs.Moved.{leaf, under, plain, turned}
+use Rattle.shapes.specs.Gathered.{AllBasic, kindsOf, notEmpty}
+use Rattle.shapes.proofs.Filled.{kindAsked, filled-count}
 
 -- a list with one element, which passes the test
 pub the-only : (xs : List ℕ) (t : ℕ → Bool) → T (theOnly xs t) → (p : ℕ) × (xs ≡ p ∷ []) × T (t p)
@@ -25,6 +26,10 @@ the-only (x ∷ []) t h = (x, refl, h)
 the-only (x ∷ y ∷ ys) t h = absurd h
 
 module _ (f : File) where
+  -- the left leaves outside the bracket
+  abbrev pub outsideLeaves : Bool → Sides → List Asked
+  outsideLeaves h x = map (leaf h) (plain f (x .outer)) ++ map (under f h) (turned f (x .right))
+
   -- ---- the kind of a literal, its complement taken off
 
   literal-turned : (e : ℕ) → T (isComplement f e) → kindAt f (child f e) ≡ literalKind f e
@@ -43,54 +48,66 @@ module _ (f : File) where
       go true t = absurd t
       go false t = refl
 
-  kinds-kept : (q : ℕ → Bool) (g : ℕ → Leaf) → ((e : ℕ) → T (q e) → kindOf f (g e) ≡ literalKind f e)
-      → (es : List ℕ) → map (kindOf f) (map g (keep q es)) ≡ map (literalKind f) (keep q es)
+  kinds-kept : (q : ℕ → Bool) (g : ℕ → Asked) → ((e : ℕ) → T (q e) → kindAsked f (g e) ≡ literalKind f e)
+      → (es : List ℕ) → map (kindAsked f) (map g (keep q es)) ≡ map (literalKind f) (keep q es)
   unfolding keep
   kinds-kept q g h [] = refl
   kinds-kept q g h (e ∷ es) =
-      keep-cases q (λ ys. map (kindOf f) (map g ys) ≡ map (literalKind f) ys) e es
+      keep-cases q (λ ys. map (kindAsked f) (map g ys) ≡ map (literalKind f) ys) e es
       (λ t. ap₂ (λ (k : ℕ) (ks : List ℕ). k ∷ ks) (h e t) (kinds-kept q g h es)) (λ _. kinds-kept q g h es)
 
-  kinds-inner : (h : Bool) (es : List ℕ) → map (kindOf f) (map (leaf h) es) ≡ map (kindAt f) es
+  kinds-inner : (h : Bool) (es : List ℕ) → map (kindAsked f) (map (leaf h) es) ≡ map (kindAt f) es
   kinds-inner h [] = refl
   kinds-inner h (e ∷ es) = ap (λ (ks : List ℕ). kindAt f e ∷ ks) (kinds-inner h es)
 
   module _ (h : Bool) where
-    kinds-others : (es : List ℕ) → map (kindOf f) (map (leaf h) (plain f es)) ≡ others f es
+    kinds-others : (es : List ℕ) → map (kindAsked f) (map (leaf h) (plain f es)) ≡ others f es
     unfolding others
     kinds-others = kinds-kept (λ e. not (isComplement f e)) (leaf h) literal-plain
 
-    kinds-complements : (es : List ℕ) → map (kindOf f) (map (under f h) (turned f es)) ≡ complements f es
+    kinds-complements : (es : List ℕ) → map (kindAsked f) (map (under f h) (turned f es)) ≡ complements f es
     unfolding complements
     kinds-complements = kinds-kept (isComplement f) (under f h) literal-turned
 
-    -- the kinds of the left leaves and of the right leaves
-    pub kinds-left : (x : Sides) → map (kindOf f) (leftLeaves f h x) ≡ movedLeft f x ++ bracket f x
-    unfolding leftLeaves movedLeft bracket
-    kinds-left x =
-        let l = map (leaf h) (plain f (x .outer)) in
-        let r = map (under f h) (turned f (x .right)) in
-        map-append (kindOf f) (l ++ r) (map (leaf (not h)) (x .inner))
-        ∙ ap₂ _++_ (map-append (kindOf f) l r ∙ ap₂ _++_ (kinds-others (x .outer)) (kinds-complements (x .right))) (kinds-inner (not h) (x .inner))
+    -- the kinds of the left leaves, outside the bracket and all, and of the right leaves
+    pub kinds-outside : (x : Sides) → kindsOf f (outsideLeaves h x) ≡ movedLeft f x
+    unfolding kindsOf movedLeft
+    kinds-outside x =
+        map-append (kindAsked f) (map (leaf h) (plain f (x .outer))) (map (under f h) (turned f (x .right)))
+        ∙ ap₂ _++_ (kinds-others (x .outer)) (kinds-complements (x .right))
 
-    pub kinds-right : (x : Sides) → map (kindOf f) (rightLeaves f h x) ≡ movedRight f x
-    unfolding rightLeaves movedRight
+    pub kinds-left : (x : Sides) → kindsOf f (leftLeaves f h x) ≡ movedLeft f x ++ bracket f x
+    unfolding kindsOf leftLeaves bracket
+    kinds-left x =
+        map-append (kindAsked f) (outsideLeaves h x) (map (leaf (not h)) (x .inner))
+        ∙ ap₂ _++_ (kinds-outside x) (kinds-inner (not h) (x .inner))
+
+    pub kinds-right : (x : Sides) → kindsOf f (rightLeaves f h x) ≡ movedRight f x
+    unfolding kindsOf rightLeaves movedRight
     kinds-right x =
-        map-append (kindOf f) (map (leaf h) (plain f (x .right))) (map (under f h) (turned f (x .outer)))
+        map-append (kindAsked f) (map (leaf h) (plain f (x .right))) (map (under f h) (turned f (x .outer)))
         ∙ ap₂ _++_ (kinds-others (x .right)) (kinds-complements (x .outer))
 
     -- as many right leaves as the shape counts, kind 0 not counted
     pub right-count : (x : Sides) → length (notEmpty f (rightLeaves f h x)) ≡ length (keep (λ k. not (eqb k 0)) (movedRight f x))
+    unfolding kindsOf
     right-count x = filled-count f (rightLeaves f h x) ∙ ap (λ (ks : List ℕ). length (keep (λ k. not (eqb k 0)) ks)) (kinds-right x)
 
   -- ---- literals are of kinds 0 to 5, complements taken off
+
+  abbrev low : ℕ → Type 0
+  low k = T (leb k 5)
 
   pub literal-basic : (e : ℕ) → T (isLiteral f e) → T (leb (literalKind f e) 5)
   unfolding isLiteral isBasic isComplement
   literal-basic e t =
       elim (or-cases (isBasic f e) (isComplement f e && isBasic f (child f e)) t) [
-        | inl b ↦ subst (λ (k : ℕ). T (leb k 5)) (literal-plain e (not-of (isComplement f e) (λ c. subst (λ (k : ℕ). T (leb k 5)) (eqb→eq (kindAt f e) 6 c) b))) b
-        | inr c ↦ subst (λ (k : ℕ). T (leb k 5)) (literal-turned e (and-left (isComplement f e) (isBasic f (child f e)) c)) (and-right (isComplement f e) (isBasic f (child f e)) c)
+        | inl b ↦ (
+            let n : T (not (isComplement f e)) = not-of (isComplement f e) (λ c. subst low (eqb→eq (kindAt f e) 6 c) b) in
+            subst low (literal-plain e n) b)
+        | inr c ↦ (
+            let t : T (isComplement f e) = and-left (isComplement f e) (isBasic f (child f e)) c in
+            subst low (literal-turned e t) (and-right (isComplement f e) (isBasic f (child f e)) c))
       ]
 
   literals-basic : (q : ℕ → Bool) (es : List ℕ) → T (every (isLiteral f) es) → T (every (λ k. leb k 5) (map (literalKind f) (keep q es)))
@@ -107,22 +124,31 @@ module _ (f : File) where
   low-append : (ks js : List ℕ) → Low ks → Low js → Low (ks ++ js)
   low-append ks js p r = of-append (λ k. leb k 5) Low (λ _. Iff·rfl) ks js .1 (p, r)
 
-  low-leaves : (xs : List Leaf) (ks : List ℕ) → map (kindOf f) xs ≡ ks → Low ks → T (every (λ x. isBasic f (x .entry)) xs)
-  unfolding isBasic
-  low-leaves xs ks e p = subst T (every-map (λ k. leb k 5) (kindOf f) xs) (subst Low (sym e) p)
+  low-basic : (xs : List Asked) → Low (kindsOf f xs) → AllBasic f xs
+  unfolding every kindsOf isBasic
+  low-basic [] p = tt
+  low-basic (x ∷ xs) p =
+      let rest : Bool = every (λ k. leb k 5) (kindsOf f xs) in
+      (and-left (isBasic f (x .entry)) rest p, low-basic xs (and-right (isBasic f (x .entry)) rest p))
+
+  low-leaves : (xs : List Asked) (ks : List ℕ) → kindsOf f xs ≡ ks → Low ks → AllBasic f xs
+  low-leaves xs ks e p = low-basic xs (subst Low (sym e) p)
 
   -- where the sides are literals and the bracket's leaves of kinds 0 to 5, all leaves are of kinds 0 to 5
   module _ (h : Bool) (x : Sides) (l : T (every (isLiteral f) (x .outer))) (r : T (every (isLiteral f) (x .right))) where
-    pub basic-left : T (every (isBasic f) (x .inner)) → T (every (λ y. isBasic f (y .entry)) (leftLeaves f h x))
-    unfolding movedLeft bracket others complements isBasic
+    low-both : (es ds : List ℕ) → T (every (isLiteral f) es) → T (every (isLiteral f) ds) → Low (others f es ++ complements f ds)
+    unfolding others complements
+    low-both es ds u v =
+        low-append (others f es) (complements f ds) (literals-basic (λ e. not (isComplement f e)) es u)
+        (literals-basic (isComplement f) ds v)
+
+    pub basic-left : T (every (isBasic f) (x .inner)) → AllBasic f (leftLeaves f h x)
+    unfolding movedLeft bracket isBasic
     basic-left i =
         low-leaves (leftLeaves f h x) (movedLeft f x ++ bracket f x) (kinds-left h x)
-        (low-append (movedLeft f x) (bracket f x)
-        (low-append (others f (x .outer)) (complements f (x .right)) (literals-basic (λ e. not (isComplement f e)) (x .outer) l) (literals-basic (isComplement f) (x .right) r))
+        (low-append (movedLeft f x) (bracket f x) (low-both (x .outer) (x .right) l r)
         (subst T (sym (every-map (λ k. leb k 5) (kindAt f) (x .inner))) i))
 
-    pub basic-right : T (every (λ y. isBasic f (y .entry)) (rightLeaves f h x))
-    unfolding movedRight others complements
-    basic-right =
-        low-leaves (rightLeaves f h x) (movedRight f x) (kinds-right h x)
-        (low-append (others f (x .right)) (complements f (x .outer)) (literals-basic (λ e. not (isComplement f e)) (x .right) r) (literals-basic (isComplement f) (x .outer) l))
+    pub basic-right : AllBasic f (rightLeaves f h x)
+    unfolding movedRight
+    basic-right = low-leaves (rightLeaves f h x) (movedRight f x) (kinds-right h x) (low-both (x .right) (x .outer) r l)

@@ -1,4 +1,3 @@
-pub mod Moved
 pub mod Filled
 pub mod LeafKinds
 pub mod ArrayLaws
@@ -10,6 +9,6 @@ pub mod AnchorLaws
 pub mod PartLaws
 pub mod SideLaws
 pub mod RuleLaws
-pub mod DecideLaws
+pub mod SummaryLaws
 pub mod GatherLaws
 pub mod GatheredLaws

@@ -13,14 +13,15 @@ use Rattle.task.specs.Reach.{every}
 use Rattle.task.proofs.Tests.{and-left, and-right, holds}
 use Rattle.meaning.specs.File.{File, stateSetAt, second}
 use Rattle.meaning.proofs.Order.{Ordered}
-use Rattle.meaning.specs.Shapes.{keep, Sides, kindAt, child, leaves, isBasic, isLiteral, ofLiterals, ofClauses, ofStates, permitted, shape₁, shapeWith}
+use Rattle.meaning.specs.Shapes.{keep, Sides, kindAt, child, leaves, isBasic, isLiteral, ofLiterals, ofClauses, ofStates, permitted}
+use Rattle.meaning.specs.Shapes.{shape₁, shapeWith}
 use Rattle.shapes.specs.Gathered.{bracketLeaf, bracketSides}
 use Rattle.trees.specs.declared.Leaves.{Leaves}
 use Rattle.shapes.specs.declared.parts.Parts.{Parts}
 use Rattle.trees.specs.Trees.{listOf, Lists, Found, hasKind}
-use Rattle.shapes.specs.Decided.{sidesIn, Holding, Paired, Plain, Bracketed}
+use Rattle.shapes.specs.Summary.{sidesIn, Holding, Paired, Plain, Bracketed}
 use Rattle.shapes.proofs.LeafKinds.{the-only}
-use Rattle.trees.proofs.LeafLaws.{leaves-some}
+use Rattle.counterexample.proofs.LeafLaws.{leaves-some}
 
 -- no more are found than there are
 found-few : (x : Leaves) (es : List ℕ) → Found x es → x .count ≤ length es
@@ -40,7 +41,8 @@ holding p outer inner right x y z l r = record {
   sides = cc (x .same, y .same, z .same);
 }
 
-pub paired : (a b : ℕ) (r : Parts) → r .ok ≡ true → Lists (r .outer) (a ∷ []) → Lists (r .inner) [] → Lists (r .right) (b ∷ []) → Paired a b r
+pub paired : (a b : ℕ) (r : Parts) → r .ok ≡ true → Lists (r .outer) (a ∷ []) → Lists (r .inner) [] → Lists (r .right) (b ∷ [])
+    → Paired a b r
 paired a b r e x y z = record {
   good = e;
   holding = holding r (a ∷ []) [] (b ∷ []) x y z (omega (arith, x .size, y .size)) (omega (arith, z .size));
@@ -48,7 +50,8 @@ paired a b r e x y z = record {
 
 module _ (f : File) where
   -- a permitted shape has few leaves
-  pub few-of : (anchors : Sides → List ℕ) (x : Sides) → T (permitted f anchors x) → (length (x .outer) + length (x .inner) ≤ 8) × (length (x .right) ≤ 8)
+  pub few-of : (anchors : Sides → List ℕ) (x : Sides) → T (permitted f anchors x)
+      → (length (x .outer) + length (x .inner) ≤ 8) × (length (x .right) ≤ 8)
   unfolding permitted ofLiterals
   few-of anchors x t =
       let literals : Bool = every (isLiteral f) (x .outer) && every (isBasic f) (x .inner) && every (isLiteral f) (x .right) in
@@ -112,7 +115,8 @@ module _ (f : File) (o : Ordered f) where
       (u : Found (r .inner) (leaves f 7 c))
       (v : Found (r .right) (leaves f 8 b))
       (w : r .actions ≡ second (stateSetAt f (getD (found .items) 0 0)))
-      (e : r .ok ≡ (leb (all .count) 8 && eqb (found .count) 1 && (leb (r .outer .count + r .inner .count) 8 && leb (r .right .count) 8))) where
+      (e : r .ok ≡ (leb (all .count) 8 && eqb (found .count) 1
+      && (leb (r .outer .count + r .inner .count) 8 && leb (r .right .count) 8))) where
     abbrev here : ℕ → Bool
     here d = eqb (kindAt f d) k
 
@@ -141,7 +145,8 @@ module _ (f : File) (o : Ordered f) where
 
     few-if : r .ok ≡ true → Few
     few-if g =
-        let t = four-tests (leb (all .count) 8) (eqb (found .count) 1) (leb (r .outer .count + r .inner .count) 8) (leb (r .right .count) 8) (holds (sym e ∙ g)) in
+        let left : Bool = leb (r .outer .count + r .inner .count) 8 in
+        let t = four-tests (leb (all .count) 8) (eqb (found .count) 1) left (leb (r .right .count) 8) (holds (sym e ∙ g)) in
         (leb→le _ 8 (t .0), eqb→eq _ 1 (t .1), leb→le _ 8 (t .2), leb→le _ 8 (t .3))
 
     if-few : Few → r .ok ≡ true
@@ -157,7 +162,8 @@ module _ (f : File) (o : Ordered f) where
         (v .all (h .3)) (h .2) (h .3)
 
     -- a permitted shape has one bracket, and few leaves
-    bracket-few : (q : ℕ) → keep here (leaves f 7 a) ≡ q ∷ [] → length (keep (λ d. not (here d)) (leaves f 7 a)) + length (leaves f 7 (child f q)) ≤ 8
+    bracket-few : (q : ℕ) → keep here (leaves f 7 a) ≡ q ∷ []
+        → length (keep (λ d. not (here d)) (leaves f 7 a)) + length (leaves f 7 (child f q)) ≤ 8
         → length (leaves f 8 b) ≤ 8 → Few
     bracket-few q only left right =
         let n : length (keep here (leaves f 7 a)) ≡ 1 = ap length only in
@@ -167,7 +173,8 @@ module _ (f : File) (o : Ordered f) where
         let one : found .count ≡ 1 = found-all few .size ∙ n in
         let same : getD (found .items) 0 0 ≡ q = ap (λ (es : List ℕ). getD es 0 0) (sym (lone few one) ∙ only) in
         let inner : r .inner .count ≤ length (leaves f 7 c) = found-few (r .inner) (leaves f 7 c) u in
-        let c-is : length (leaves f 7 c) ≡ length (leaves f 7 (child f q)) = ap (λ (d : ℕ). length (leaves f 7 d)) (named ∙ ap (child f) same) in
+        let c-is : length (leaves f 7 c) ≡ length (leaves f 7 (child f q)) =
+        ap (λ (d : ℕ). length (leaves f 7 d)) (named ∙ ap (child f) same) in
         let outer : r .outer .count ≡ length (keep (λ d. not (here d)) (leaves f 7 a)) = outer-all few .size in
         (few, one, omega arith, v .few right)
 

@@ -10,13 +10,14 @@ use Rattle.task.specs.Reach.{every}
 use Rattle.task.proofs.Tests.{and-left, and-right, and-both, excluded, never, not-of}
 use Rattle.meaning.specs.File.{File}
 use Rattle.meaning.specs.Shapes.{keep, Sides, kindAt, isBasic, isComplement}
-use Rattle.trees.specs.Counter.{Leaf, leftLeaves, rightLeaves}
-use Rattle.trees.specs.Flat.{notEmpty}
+use Rattle.counterexample.specs.Counter.{Asked, leftLeaves, rightLeaves}
+use Rattle.shapes.specs.Gathered.{notEmpty}
 use Rattle.shapes.specs.Arrays.{entryOf, onSide, wants, picked}
-use Rattle.shapes.specs.Decided.{pickedOutside, pickedLeft, pickedRight}
-use Rattle.trees.proofs.Lists.{keep-cases}
-use Rattle.shapes.proofs.Moved.{leaf, under, plain, turned}
-use Rattle.shapes.proofs.Filled.{kindOf, filled-cases, filled-append}
+use Rattle.shapes.specs.Summary.{pickedOutside, pickedLeft, pickedRight}
+use Rattle.counterexample.proofs.Lists.{keep-cases}
+use Rattle.counterexample.proofs.Moved.{leaf, under, plain, turned}
+use Rattle.shapes.proofs.LeafKinds.{outsideLeaves}
+use Rattle.shapes.proofs.Filled.{kindAsked, filled-cases, filled-append}
 
 -- ---- what is kept
 
@@ -35,14 +36,15 @@ keep-same t u h (e ∷ es) = ap₂ (λ (b : Bool) (ys : List ℕ). elim b [ true
 keep-all : (t : ℕ → Bool) (es : List ℕ) → T (every t es) → keep t es ≡ es
 unfolding every keep
 keep-all t [] a = refl
-keep-all t (e ∷ es) a = keep-in t e es (and-left (t e) (every t es) a) ∙ ap (λ (ys : List ℕ). e ∷ ys) (keep-all t es (and-right (t e) (every t es) a))
+keep-all t (e ∷ es) a =
+    keep-in t e es (and-left (t e) (every t es) a) ∙ ap (λ (ys : List ℕ). e ∷ ys) (keep-all t es (and-right (t e) (every t es) a))
 
 module _ (f : File) where
-  filled-in : (x : Leaf) (xs : List Leaf) → T (not (eqb (kindOf f x) 0)) → notEmpty f (x ∷ xs) ≡ x ∷ notEmpty f xs
-  filled-in x xs n = filled-cases f (λ ys. ys ≡ x ∷ notEmpty f xs) x xs (λ y. absurd (never (eqb (kindOf f x) 0) y n)) (λ _. refl)
+  filled-in : (x : Asked) (xs : List Asked) → T (not (eqb (kindAsked f x) 0)) → notEmpty f (x ∷ xs) ≡ x ∷ notEmpty f xs
+  filled-in x xs n = filled-cases f (λ ys. ys ≡ x ∷ notEmpty f xs) x xs (λ y. absurd (never (eqb (kindAsked f x) 0) y n)) (λ _. refl)
 
-  filled-out : (x : Leaf) (xs : List Leaf) → T (eqb (kindOf f x) 0) → notEmpty f (x ∷ xs) ≡ notEmpty f xs
-  filled-out x xs y = filled-cases f (λ ys. ys ≡ notEmpty f xs) x xs (λ _. refl) (λ n. absurd (never (eqb (kindOf f x) 0) y n))
+  filled-out : (x : Asked) (xs : List Asked) → T (eqb (kindAsked f x) 0) → notEmpty f (x ∷ xs) ≡ notEmpty f xs
+  filled-out x xs y = filled-cases f (λ ys. ys ≡ notEmpty f xs) x xs (λ _. refl) (λ n. absurd (never (eqb (kindAsked f x) 0) y n))
 
   -- ---- leaves of any kind
 
@@ -61,8 +63,8 @@ module _ (f : File) where
   -- ---- leaves of other kinds than 0
 
   module _ (t h : Bool) where
-    abbrev leafOf : ℕ → Leaf
-    leafOf e = leaf h (entryOf f t e)
+    abbrev askedOf : ℕ → Asked
+    askedOf e = leaf h (entryOf f t e)
 
     abbrev isEmpty : ℕ → Bool
     isEmpty e = eqb (kindAt f (entryOf f t e)) 0
@@ -87,19 +89,20 @@ module _ (f : File) where
     abbrev kept : Bool → List ℕ → List ℕ
     kept a = keep (wants f t a)
 
-    filled-next : (e : ℕ) (es : List ℕ) → map leafOf (kept false es) ≡ notEmpty f (map leafOf (kept true es))
-        → map leafOf (kept false (e ∷ es)) ≡ notEmpty f (map leafOf (kept true (e ∷ es)))
+    filled-next : (e : ℕ) (es : List ℕ) → map askedOf (kept false es) ≡ notEmpty f (map askedOf (kept true es))
+        → map askedOf (kept false (e ∷ es)) ≡ notEmpty f (map askedOf (kept true (e ∷ es)))
     filled-next e es h =
         elim (excluded (onSide f t e)) [
-          | inr n ↦ ap (map leafOf) (keep-out (wants f t false) e es (away e false n)) ∙ h
-              ∙ sym (ap (λ (ys : List ℕ). notEmpty f (map leafOf ys)) (keep-out (wants f t true) e es (away e true n)))
+          | inr n ↦ ap (map askedOf) (keep-out (wants f t false) e es (away e false n)) ∙ h
+              ∙ sym (ap (λ (ys : List ℕ). notEmpty f (map askedOf ys)) (keep-out (wants f t true) e es (away e true n)))
           | inl y ↦ (
-              let r : notEmpty f (map leafOf (kept true (e ∷ es))) ≡ notEmpty f (leafOf e ∷ map leafOf (kept true es)) =
-              ap (λ (ys : List ℕ). notEmpty f (map leafOf ys)) (keep-in (wants f t true) e es (any-wanted e y)) in
+              let r : notEmpty f (map askedOf (kept true (e ∷ es))) ≡ notEmpty f (askedOf e ∷ map askedOf (kept true es)) =
+              ap (λ (ys : List ℕ). notEmpty f (map askedOf ys)) (keep-in (wants f t true) e es (any-wanted e y)) in
               elim (excluded (isEmpty e)) [
-                | inl u ↦ ap (map leafOf) (keep-out (wants f t false) e es (empty-unwanted e u)) ∙ h ∙ sym (r ∙ filled-out (leafOf e) (map leafOf (kept true es)) u)
-                | inr v ↦ ap (map leafOf) (keep-in (wants f t false) e es (other-wanted e y v)) ∙ ap (λ (ys : List Leaf). leafOf e ∷ ys) h
-                    ∙ sym (r ∙ filled-in (leafOf e) (map leafOf (kept true es)) v)
+                | inl u ↦ ap (map askedOf) (keep-out (wants f t false) e es (empty-unwanted e u)) ∙ h
+                    ∙ sym (r ∙ filled-out (askedOf e) (map askedOf (kept true es)) u)
+                | inr v ↦ ap (map askedOf) (keep-in (wants f t false) e es (other-wanted e y v))
+                    ∙ ap (λ (ys : List Asked). askedOf e ∷ ys) h ∙ sym (r ∙ filled-in (askedOf e) (map askedOf (kept true es)) v)
               ])
         ]
 
@@ -115,15 +118,12 @@ module _ (f : File) where
   basic-plain [] a = tt
   basic-plain (e ∷ es) a =
       let b : T (isBasic f e) = and-left (isBasic f e) (every (isBasic f) es) a in
-      and-both (not (isComplement f e)) (every (λ d. not (isComplement f d)) es)
-      (not-of (isComplement f e) (λ c. subst (λ (k : ℕ). T (leb k 5)) (eqb→eq (kindAt f e) 6 c) b)) (basic-plain es (and-right (isBasic f e) (every (isBasic f) es) a))
-
-  -- left leaves outside the bracket
-  abbrev pub outsideLeaves : Bool → Sides → List Leaf
-  outsideLeaves h x = map (leaf h) (plain f (x .outer)) ++ map (under f h) (turned f (x .right))
+      let n : T (not (isComplement f e)) = not-of (isComplement f e) (λ c. subst (λ (k : ℕ). T (leb k 5)) (eqb→eq (kindAt f e) 6 c) b) in
+      and-both (not (isComplement f e)) (every (λ d. not (isComplement f d)) es) n
+      (basic-plain es (and-right (isBasic f e) (every (isBasic f) es) a))
 
   module _ (h : Bool) (x : Sides) where
-    pub picked-outside : pickedOutside f h x ≡ outsideLeaves h x
+    pub picked-outside : pickedOutside f h x ≡ outsideLeaves f h x
     unfolding pickedOutside
     picked-outside = ap₂ _++_ (picked-plain h (x .outer)) (picked-turned h (x .right))
 
@@ -136,5 +136,6 @@ module _ (f : File) where
     pub picked-right : pickedRight f h x ≡ notEmpty f (rightLeaves f h x)
     unfolding pickedRight rightLeaves
     picked-right =
-        ap₂ _++_ (picked-filled false h (x .right) ∙ ap (notEmpty f) (picked-plain h (x .right))) (picked-filled true h (x .outer) ∙ ap (notEmpty f) (picked-turned h (x .outer)))
+        ap₂ _++_ (picked-filled false h (x .right) ∙ ap (notEmpty f) (picked-plain h (x .right)))
+        (picked-filled true h (x .outer) ∙ ap (notEmpty f) (picked-turned h (x .outer)))
         ∙ sym (filled-append f _ _)

@@ -10,11 +10,12 @@ use mathlib.Core.List.{List, [], _∷_}
 use lib.Dec.{eqb}
 use Rattle.task.specs.Reach.{every}
 use Rattle.meaning.specs.File.{File}
-use Rattle.meaning.specs.Shapes.{keep, theOnly, Sides, kindAt, child, leaves, isBasic, isLiteral, movedLeft, bracket, permitted, shape₁, shapeWith, shape₂, shape₃}
+use Rattle.meaning.specs.Shapes.{keep, theOnly, Sides, kindAt, child, leaves, isBasic, isLiteral, movedLeft, bracket, permitted, shape₁}
+use Rattle.meaning.specs.Shapes.{shapeWith, shape₂, shape₃}
 use Rattle.shapes.specs.Gathered.{bracketLeaf, bracketSides, shapeOf, sidesOf, actionsOfRule}
 use Rattle.shapes.specs.declared.parts.Parts.{Parts}
 use Rattle.trees.specs.Trees.{basicOr}
-use Rattle.shapes.specs.Decided.{Paired, Plain, Bracketed, anchorsOf, Parted}
+use Rattle.shapes.specs.Summary.{Paired, Plain, Bracketed, anchorsOf, Parted}
 
 module _ (f : File) (rule a b : ℕ) (r : Parts) where
   pub parted-pair : rule ≡ 4 → Paired a b r → Parted f rule a b r
@@ -42,19 +43,31 @@ module _ (f : File) (rule a b : ℕ) (r : Parts) where
       → shapeWith f k anchors a b ≡ permitted f anchors (bracketSides f k a b)
   unfolding shapeWith bracketSides theOnly
   with-lone k anchors e =
-      ap (λ (es : List ℕ). theOnly es (λ p. permitted f anchors (record { outer = keep (λ d. not (eqb (kindAt f d) k)) (leaves f 7 a); inner = leaves f 7 (child f p); right = leaves f 8 b }))) e
+      let outer : List ℕ = keep (λ d. not (eqb (kindAt f d) k)) (leaves f 7 a) in
+      ap (λ (es : List ℕ). theOnly es (λ p.
+      permitted f anchors (record { outer = outer; inner = leaves f 7 (child f p); right = leaves f 8 b }))) e
 
   at-two : rule ≡ 2 → Bracketed f (7 + rule) a b r → Parted f rule a b r
   unfolding shapeOf sidesOf shape₂ anchorsOf actionsOfRule
   at-two e =
       subst (λ (n : ℕ). Bracketed f (7 + n) a b r → Parted f n a b r) (sym e)
-      (λ h. record { good = h .good; shape = λ g _. with-lone 9 (bracket f) (h .lone g); actions = λ g _ _. h .actions g; only = h .only (bracket f) })
+      (λ h. record {
+        good = h .good;
+        shape = λ g _. with-lone 9 (bracket f) (h .lone g);
+        actions = λ g _ _. h .actions g;
+        only = h .only (bracket f);
+      })
 
   at-three : rule ≡ 3 → Bracketed f (7 + rule) a b r → Parted f rule a b r
   unfolding shapeOf sidesOf shape₃ anchorsOf actionsOfRule
   at-three e =
       subst (λ (n : ℕ). Bracketed f (7 + n) a b r → Parted f n a b r) (sym e)
-      (λ h. record { good = h .good; shape = λ g _. with-lone 10 (movedLeft f) (h .lone g); actions = λ g _ _. h .actions g; only = h .only (movedLeft f) })
+      (λ h. record {
+        good = h .good;
+        shape = λ g _. with-lone 10 (movedLeft f) (h .lone g);
+        actions = λ g _ _. h .actions g;
+        only = h .only (movedLeft f);
+      })
 
   pub parted-bracket : 1 ≤ rule → rule ≤ 4 → (rule ≡ 4 → ⊥) → (rule ≡ 1 → ⊥) → Bracketed f (7 + rule) a b r → Parted f rule a b r
   parted-bracket l g n m =

@@ -12,9 +12,10 @@ use Rattle.task.specs.Reach.{member}
 use Rattle.task.proofs.Tests.{is-true}
 use Rattle.meaning.specs.File.{File}
 use Rattle.meaning.specs.Sets.{allBelow}
-use Rattle.meaning.specs.Shapes.{keep, Sides, isComplement, isLiteral, literalKind, complements, others, movedLeft, movedRight, bracket, used, ofLiterals, ofClauses, ofStates, permitted, mixed, shape₄}
+use Rattle.meaning.specs.Shapes.{keep, Sides, isComplement, isLiteral, literalKind, complements, others, movedLeft, movedRight, bracket}
+use Rattle.meaning.specs.Shapes.{used, ofLiterals, ofClauses, ofStates, permitted, mixed, shape₄}
 use Rattle.shapes.specs.declared.sorts.Flags.{Flags}
-use Rattle.shapes.specs.Decided.{clausesBy, statesBy, pairBy, literalsOf}
+use Rattle.shapes.specs.Summary.{clausesBy, statesBy, pairBy, literalsOf}
 use Rattle.meaning.proofs.Below.{all-at}
 use Rattle.shapes.proofs.LeafKinds.{literal-basic}
 use Rattle.shapes.proofs.PartLaws.{four-tests}
@@ -31,7 +32,8 @@ flagsOf left right = record {
   r5 = member 5 right;
 }
 
-module _ (f : File) (x : Sides) (lit : literalsOf f x ≡ true) (left : length (x .outer) + length (x .inner) ≤ 8) (right : length (x .right) ≤ 8) where
+module _ (f : File) (x : Sides) (lit : literalsOf f x ≡ true) (left : length (x .outer) + length (x .inner) ≤ 8)
+    (right : length (x .right) ≤ 8) where
   of-literals : ofLiterals f x ≡ true
   unfolding literalsOf ofLiterals
   of-literals = ap₂ _&&_ (ap₂ _&&_ lit (le-leb _ 8 left)) (le-leb _ 8 right)
@@ -103,7 +105,8 @@ module _ (f : File) where
   unfolding others keep
   one-other e = go (isComplement f e)
     where
-      go : (b : Bool) → map (literalKind f) (elim (not b) [ true ↦ e ∷ [] | false ↦ [] ]) ≡ elim b [ true ↦ [] | false ↦ literalKind f e ∷ [] ]
+      go : (b : Bool)
+          → map (literalKind f) (elim (not b) [ true ↦ e ∷ [] | false ↦ [] ]) ≡ elim b [ true ↦ [] | false ↦ literalKind f e ∷ [] ]
       go true = refl
       go false = refl
 
@@ -126,11 +129,13 @@ module _ (f : File) where
     paired-by s t =
         let l : literalKind f a < 6 = below (literal-basic f a s) in
         let m : literalKind f b < 6 = below (literal-basic f b t) in
-        let p : leftPair (literalKind f a) (isComplement f a) (literalKind f b) (isComplement f b) ≡ movedLeft f pairSides ++ bracket f pairSides =
+        let p : leftPair (literalKind f a) (isComplement f a) (literalKind f b) (isComplement f b)
+        ≡ movedLeft f pairSides ++ bracket f pairSides =
         ap₂ _++_ (sym (one-other a)) (sym (one-complement b)) ∙ sym (append-nil _) in
         let q : leftPair (literalKind f b) (isComplement f b) (literalKind f a) (isComplement f a) ≡ movedRight f pairSides =
         ap₂ _++_ (sym (one-other b)) (sym (one-complement a)) in
-        ap₂ (λ (i j : Bool). i && j && mixed f (literalKind f a) (isComplement f a) (literalKind f b) (isComplement f b)) (is-true (isLiteral f a) s) (is-true (isLiteral f b) t)
+        ap₂ (λ (i j : Bool). i && j && mixed f (literalKind f a) (isComplement f a) (literalKind f b) (isComplement f b))
+        (is-true (isLiteral f a) s) (is-true (isLiteral f b) t)
         ∙ mixed-by _ _ l m (isComplement f a) (isComplement f b) ∙ ap₂ (λ (u v : List ℕ). pairBy (flagsOf u v)) p q
       where
         below : {k : ℕ} → T (leb k 5) → k < 6

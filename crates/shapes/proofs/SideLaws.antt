@@ -9,7 +9,7 @@ use Rattle.meaning.specs.File.{File}
 use Rattle.shapes.specs.declared.parts.Parts.{Parts}
 use Rattle.trees.specs.Trees.{listOf}
 use Rattle.shapes.specs.Arrays.{picked, Put}
-use Rattle.shapes.specs.Decided.{SoundParts, sidesIn, pickedOutside, pickedLeft, pickedRight, Filled}
+use Rattle.shapes.specs.Summary.{SoundParts, sidesIn, pickedOutside, pickedLeft, pickedRight, Filled}
 use Rattle.shapes.proofs.ArrayLaws.{put-append, put-bounds}
 
 pub filled-by : (f : File) (index : List ℕ) (h : Bool) (p : Parts) → SoundParts p
@@ -32,5 +32,9 @@ filled-by f index h p s l₀ l₁ l₂ l₃ r₀ r₁ r₂ a b c d e u v w x y =
       outside = outside .count ∙ omega arith;
       on-left = put-append index f _ _ _ _ _ _ _ _ outside w;
       on-right = put-append index f _ _ _ _ _ _ _ _ x y;
-      few = (inner .0, omega (arith, own .1, moved .1, inner .1, s .few-left, s .few-right), omega (arith, some .1, others .1, s .few-left, s .few-right));
+      few = (
+        inner .0,
+        omega (arith, own .1, moved .1, inner .1, s .few-left, s .few-right),
+        omega (arith, some .1, others .1, s .few-left, s .few-right),
+      );
     }

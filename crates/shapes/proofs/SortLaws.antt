@@ -13,7 +13,7 @@ use Rattle.task.proofs.Tests.{and-left, and-right, and-both, or-left, or-right,
 use Rattle.meaning.specs.File.{File}
 use Rattle.meaning.specs.Shapes.{keep, isComplement, literalKind, others, complements, movedLeft, movedRight, bracket}
 use Rattle.shapes.specs.declared.sorts.Flags.{Flags}
-use Rattle.shapes.specs.Decided.{clausesBy, statesBy, pairBy}
+use Rattle.shapes.specs.Summary.{clausesBy, statesBy, pairBy}
 use Rattle.trees.proofs.TreeLaws.{keep-short}
 use Rattle.shapes.proofs.KindLaws.{hit}
 use Rattle.shapes.proofs.ShapeLaws.{pairSides}
@@ -43,10 +43,14 @@ module _ (x : Flags) (m : ℕ) (anchored : Bool) where
             λ u v. never (h4 && h5) (and-both h4 h5 (or-left (x .l4) (x .r4) u) (or-left (x .l5) (x .r5) v))
                 (and-right (not listed) (not (h4 && h5)) (and-left (not listed && not (h4 && h5)) (leb m 2) c)),
           );
-          states = λ e. absurd (never listed (holds e) (and-left (not listed) (not (h4 && h5)) (and-left (not listed && not (h4 && h5)) (leb m 2) c)));
+          states = λ e.
+              absurd (never listed (holds e) (and-left (not listed) (not (h4 && h5))
+              (and-left (not listed && not (h4 && h5)) (leb m 2) c)));
         }
         | inr s ↦ record {
-          clauses = λ e. absurd (clash listed (and-left listed (not h4) (and-left (listed && not h4) (not h5) (and-left (listed && not h4 && not h5) anchored s))) e);
+          clauses = λ e.
+              let u : T (listed && not h4) = and-left (listed && not h4) (not h5) (and-left (listed && not h4 && not h5) anchored s) in
+              absurd (clash listed (and-left listed (not h4) u) e);
           states = λ _. and-right (listed && not h4 && not h5) anchored s;
         }
       ]

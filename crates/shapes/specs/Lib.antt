@@ -1,3 +1,3 @@
 pub mod Gathered
 pub mod Arrays
-pub mod Decided
+pub mod Summary

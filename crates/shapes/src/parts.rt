@@ -1,5 +1,5 @@
 // A statement's leaves as they are written, before complements change sides.
-use certificate::Places;
+use certificate::Index;
 use trees::Leaves;
 use trees::all_basic;
 use trees::node_at;
@@ -10,7 +10,7 @@ use trees::tree;
 ghost use mathlib.Core.Path.{_≡_};
 ghost use Prim.Native.Nat.{_≤_};
 ghost use Rattle.certificate.specs.Known.{Known, decoded};
-ghost use Rattle.shapes.specs.Decided.{SoundParts, sidesIn, Paired, Plain, Bracketed, Parted, literalsOf};
+ghost use Rattle.shapes.specs.Summary.{SoundParts, sidesIn, Paired, Plain, Bracketed, Parted, literalsOf};
 
 // A statement's leaves as written: left ones outside the bracket, those inside it, right ones, and the bracket's action set.
 pub struct Parts {
@@ -35,12 +35,12 @@ fn pair(a: u16, b: u16) -> Parts
 }
 
 // Rule 1: intersections within unions, at most 8 leaves a side.
-fn plain(file: &[u8], at: Places, index: &[u16; 768], a: u16, b: u16) -> Parts
-    requires { ⌜ Known (now file) at (now index) ⌝ }
+fn plain(file: &[u8], index: &Index, a: u16, b: u16) -> Parts
+    requires { ⌜ Known (now file) (now index) ⌝ }
     ensures { λ r. ⌜ Plain (decoded (now (file .entry))) a b r ⌝ }
 {
-    let outer = tree(file, at, index, 7, a);
-    let right = tree(file, at, index, 8, b);
+    let outer = tree(file, index, 7, a);
+    let right = tree(file, index, 8, b);
     Parts {
         ok: (outer.count <= 8) & (right.count <= 8),
         outer,
@@ -51,17 +51,17 @@ fn plain(file: &[u8], at: Places, index: &[u16; 768], a: u16, b: u16) -> Parts
 }
 
 // Rules 2 and 3: the same with a bracket, the only left leaf of kind k, 9 or 10.
-fn bracket(file: &[u8], at: Places, index: &[u16; 768], k: u8, a: u16, b: u16) -> Parts
-    requires { ⌜ Known (now file) at (now index) ⌝ }
+fn bracket(file: &[u8], index: &Index, k: u8, a: u16, b: u16) -> Parts
+    requires { ⌜ Known (now file) (now index) ⌝ }
     ensures { λ r. ⌜ Bracketed (decoded (now (file .entry))) k a b r ⌝ }
 {
-    let all = tree(file, at, index, 7, a);
-    let right = tree(file, at, index, 8, b);
-    let found = of_kind(file, at, index, all, k, true);
-    let outer = of_kind(file, at, index, all, k, false);
+    let all = tree(file, index, 7, a);
+    let right = tree(file, index, 8, b);
+    let found = of_kind(file, index, all, k, true);
+    let outer = of_kind(file, index, all, k, false);
     let p = found.items[0];
-    let x = node_at(file, at, index, p);
-    let inner = tree(file, at, index, 7, x.first);
+    let x = node_at(file, index, p);
+    let inner = tree(file, index, 7, x.first);
     let few = (outer.count + inner.count <= 8) & (right.count <= 8);
     Parts {
         ok: (all.count <= 8) & (found.count == 1) & few,
@@ -73,15 +73,8 @@ fn bracket(file: &[u8], at: Places, index: &[u16; 768], k: u8, a: u16, b: u16) -
 }
 
 // The leaves of a statement as written; not `ok` where there are too many, or no bracket or several where one has to be.
-pub(crate) fn parts_of(
-    file: &[u8],
-    at: Places,
-    index: &[u16; 768],
-    rule: u8,
-    a: u16,
-    b: u16,
-) -> Parts
-    requires { ⌜ Known (now file) at (now index) ⌝ }
+pub(crate) fn parts_of(file: &[u8], index: &Index, rule: u8, a: u16, b: u16) -> Parts
+    requires { ⌜ Known (now file) (now index) ⌝ }
     requires { ⌜ (1 ≤ rule) × (rule ≤ 4) ⌝ }
     ensures { λ r. ⌜ Parted (decoded (now (file .entry))) rule a b r ⌝ }
 {
@@ -89,19 +82,19 @@ pub(crate) fn parts_of(
         return pair(a, b);
     }
     if rule == 1 {
-        return plain(file, at, index, a, b);
+        return plain(file, index, a, b);
     }
-    bracket(file, at, index, 7 + rule, a, b)
+    bracket(file, index, 7 + rule, a, b)
 }
 
 // Whether the leaves are literals and, inside the bracket, of kinds 0 to 5.
-pub(crate) fn literals(file: &[u8], at: Places, index: &[u16; 768], p: Parts) -> bool
-    requires { ⌜ Known (now file) at (now index) ⌝ }
+pub(crate) fn literals(file: &[u8], index: &Index, p: Parts) -> bool
+    requires { ⌜ Known (now file) (now index) ⌝ }
     requires { ⌜ SoundParts p ⌝ }
     ensures { λ r. ⌜ r ≡ literalsOf (decoded (now (file .entry))) (sidesIn p) ⌝ }
 {
-    let outer = all_basic(file, at, index, p.outer, true);
-    let inner = all_basic(file, at, index, p.inner, false);
-    let right = all_basic(file, at, index, p.right, true);
+    let outer = all_basic(file, index, p.outer, true);
+    let inner = all_basic(file, index, p.inner, false);
+    let right = all_basic(file, index, p.right, true);
     outer & inner & right
 }

@@ -4,14 +4,14 @@ use crate::parts::Parts;
 use crate::parts::literals;
 use crate::parts::parts_of;
 use crate::sorts::Counts;
-use crate::sorts::decide;
-use certificate::Places;
+use crate::sorts::summary;
+use certificate::Index;
 ghost use mathlib.Core.Path.{_≡_};
 ghost use Prim.Native.Nat.{_≤_};
 ghost use mathlib.Core.Bool.{true, false};
 ghost use Rattle.certificate.specs.Known.{Known, decoded};
 ghost use Rattle.shapes.specs.Gathered.{shapeOf, Gathers};
-ghost use Rattle.shapes.specs.Decided.{SoundParts, sidesIn, Filled, Zeros};
+ghost use Rattle.shapes.specs.Summary.{SoundParts, sidesIn, Filled, Zeros};
 
 // What is known of a statement once its leaves stand in the two arrays.
 pub struct Gathered {
@@ -31,32 +31,22 @@ pub struct Gathered {
 // Writes the leaves, complements on the other side. On the right those of kind 0 are left out.
 fn fill(
     file: &[u8],
-    at: Places,
-    index: &[u16; 768],
-    through: bool,
+    index: &Index,
+    after: bool,
     p: Parts,
-    left: &mut [u32; 96],
-    right: &mut [u32; 64],
+    left: &mut [u64; 24],
+    right: &mut [u64; 16],
 ) -> Counts
-    requires { ⌜ Known (now file) at (now index) ⌝ }
+    requires { ⌜ Known (now file) (now index) ⌝ }
     requires { ⌜ SoundParts p ⌝ }
-    ensures { λ r. ⌜ Filled (decoded (now (file .entry))) (now (index .entry)) through (sidesIn p) (now (left .entry)) (now (left .exit)) (now (right .entry)) (now (right .exit)) r ⌝ }
+    ensures { λ r. ⌜ Filled (decoded (now (file .entry))) (now (index .entry)) after (sidesIn p)
+        (now (left .entry)) (now (left .exit)) (now (right .entry)) (now (right .exit)) r ⌝ }
 {
-    let own = put(file, at, index, p.outer, false, true, through, left, 0);
-    let outside = put(file, at, index, p.right, true, true, through, left, own);
-    let all = put(
-        file,
-        at,
-        index,
-        p.inner,
-        false,
-        true,
-        !through,
-        left,
-        outside,
-    );
-    let some = put(file, at, index, p.right, false, false, through, right, 0);
-    let others = put(file, at, index, p.outer, true, false, through, right, some);
+    let own = put(file, index, p.outer, false, true, after, left, 0);
+    let outside = put(file, index, p.right, true, true, after, left, own);
+    let all = put(file, index, p.inner, false, true, !after, left, outside);
+    let some = put(file, index, p.right, false, false, after, right, 0);
+    let others = put(file, index, p.outer, true, false, after, right, some);
     Counts {
         outside,
         left: all,
@@ -82,25 +72,25 @@ fn refused() -> Gathered
 // Gathers the leaves of a statement by rule 1 to 4 into two arrays, and tells whether its shape is permitted.
 pub fn gather(
     file: &[u8],
-    at: Places,
-    index: &[u16; 768],
+    index: &Index,
     rule: u8,
     a: u16,
     b: u16,
-    left: &mut [u32; 96],
-    right: &mut [u32; 64],
+    left: &mut [u64; 24],
+    right: &mut [u64; 16],
 ) -> Gathered
-    requires { ⌜ Known (now file) at (now index) ⌝ }
+    requires { ⌜ Known (now file) (now index) ⌝ }
     requires { ⌜ (1 ≤ rule) × (rule ≤ 4) ⌝ }
     requires { ⌜ Zeros (now right) ⌝ }
     ensures shape { λ r. ⌜ r .permitted ≡ shapeOf (decoded (now (file .entry))) rule a b ⌝ }
-    ensures leaves { λ r. ⌜ (r .permitted ≡ true → Gathers (decoded (now (file .entry))) (now (index .entry)) rule a b (now (left .exit)) (now (right .exit)) r) ⌝ }
+    ensures leaves { λ r. ⌜ (r .permitted ≡ true
+        → Gathers (decoded (now (file .entry))) (now (index .entry)) rule a b (now (left .exit)) (now (right .exit)) r) ⌝ }
 {
-    let p = parts_of(file, at, index, rule, a, b);
+    let p = parts_of(file, index, rule, a, b);
     if p.ok {
-        if literals(file, at, index, p) {
-            let n = fill(file, at, index, rule == 2, p, left, right);
-            decide(rule, left, right, n, p.actions)
+        if literals(file, index, p) {
+            let n = fill(file, index, rule == 2, p, left, right);
+            summary(rule, left, right, n, p.actions)
         } else {
             refused()
         }

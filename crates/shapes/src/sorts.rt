@@ -1,9 +1,13 @@
 // What the kinds in the arrays say of a statement: whether it is permitted, and where its anchor is.
 use crate::shape::Gathered;
+use certificate::BasicEntry;
+use leaves::kind_of;
+use leaves::leaf_at;
 ghost use mathlib.Core.Path.{_≡_};
-ghost use Prim.Native.Nat.{_*_, _≤_};
+ghost use Prim.Native.Nat.{_≤_};
 ghost use lib.ListN.{length};
-ghost use Rattle.shapes.specs.Decided.{kindIn, flagsIn, Anchor, fromOf, toOf, permitsBy, Decided};
+ghost use Rattle.shapes.specs.Gathered.{mayAnchor};
+ghost use Rattle.shapes.specs.Summary.{kindIn, flagsIn, Anchor, fromOf, toOf, permitsBy, Summary};
 
 // How many leaves the arrays hold: on the left outside the bracket, on the left, on the right.
 pub struct Counts {
@@ -23,21 +27,21 @@ pub struct Flags {
 }
 
 // Whether some of the first n leaves is of kind k.
-fn kind_in(xs: &[u32], n: u32, k: u32) -> bool
-    requires { ⌜ 4 * n ≤ length (now xs) ⌝ }
+fn kind_in(xs: &[u64], n: u32, k: u8) -> bool
+    requires { ⌜ n ≤ length (now xs) ⌝ }
     ensures { λ r. ⌜ r ≡ kindIn (now (xs .entry)) n k ⌝ }
 {
     let mut found = false;
     let mut j = 0u32;
     while j < n {
-        let i = 4 * j as usize;
-        found = found | (xs[i] == k);
+        let set = leaf_at(xs, j as usize).set;
+        found = found | (kind_of(set) == k);
         j += 1;
     }
     found
 }
 
-fn flags_in(left: &[u32; 96], right: &[u32; 64], n: Counts) -> Flags
+fn flags_in(left: &[u64; 24], right: &[u64; 16], n: Counts) -> Flags
     requires { ⌜ n .left ≤ 24 ⌝ }
     requires { ⌜ n .right ≤ 16 ⌝ }
     ensures { λ r. ⌜ r ≡ flagsIn (now (left .entry)) (n .left) (now (right .entry)) (n .right) ⌝ }
@@ -58,17 +62,30 @@ fn flags_in(left: &[u32; 96], right: &[u32; 64], n: Counts) -> Flags
     }
 }
 
-// The first of the leaves from a number up to another that is of kind 0, 1 or 3; the other number where none is.
-fn anchor_in(left: &[u32; 96], from: u32, to: u32) -> u32
+// Whether a set's states are listed: none, the initial state, an explicit list.
+fn may_anchor(x: BasicEntry) -> bool
+    ensures { λ r. ⌜ r ≡ mayAnchor x ⌝ }
+{
+    match x {
+        BasicEntry::Empty => true,
+        BasicEntry::Init => true,
+        BasicEntry::Goal => false,
+        BasicEntry::Explicit(_) => true,
+        BasicEntry::Horn(_) => false,
+        BasicEntry::TwoCnf(_) => false,
+    }
+}
+
+// The first of the leaves from a number up to another whose states are listed; the other number where none is.
+fn anchor_in(left: &[u64; 24], from: u32, to: u32) -> u32
     requires { ⌜ from ≤ to ⌝ }
     requires { ⌜ to ≤ 24 ⌝ }
     ensures { λ r. ⌜ Anchor (now (left .entry)) from to r ⌝ }
 {
     let mut j = from;
     while j < to {
-        let i = 4 * j as usize;
-        let kind = left[i];
-        if (kind == 0) | (kind == 1) | (kind == 3) {
+        let set = leaf_at(left, j as usize).set;
+        if may_anchor(set) {
             return j;
         }
         j += 1;
@@ -84,7 +101,7 @@ fn anchors_end(rule: u8, n: Counts) -> u32
 }
 
 // Rule 2 has its anchor inside the bracket, the others outside.
-fn find_anchor(rule: u8, left: &[u32; 96], n: Counts) -> u32
+fn find_anchor(rule: u8, left: &[u64; 24], n: Counts) -> u32
     requires { ⌜ n .outside ≤ n .left ⌝ }
     requires { ⌜ n .left ≤ 24 ⌝ }
     ensures { λ r. ⌜ Anchor (now (left .entry)) (fromOf rule n) (toOf rule n) r ⌝ }
@@ -112,15 +129,15 @@ fn permits(rule: u8, x: Flags, right: u32, anchored: bool) -> bool
 }
 
 // What the arrays tell of a statement.
-pub(crate) fn decide(
+pub(crate) fn summary(
     rule: u8,
-    left: &[u32; 96],
-    right: &[u32; 64],
+    left: &[u64; 24],
+    right: &[u64; 16],
     n: Counts,
     actions: u16,
 ) -> Gathered
     requires { ⌜ (n .outside ≤ n .left) × (n .left ≤ 24) × (n .right ≤ 16) ⌝ }
-    ensures { λ r. ⌜ Decided rule (now (left .entry)) (now (right .entry)) n actions r ⌝ }
+    ensures { λ r. ⌜ Summary rule (now (left .entry)) (now (right .entry)) n actions r ⌝ }
 {
     let x = flags_in(left, right, n);
     let anchor = find_anchor(rule, left, n);

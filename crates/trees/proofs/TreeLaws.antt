@@ -15,8 +15,8 @@ use Rattle.meaning.proofs.Order.{Ordered}
 use Rattle.meaning.specs.Shapes.{keep, kindAt, child, leaves}
 use Rattle.trees.specs.declared.Leaves.{Leaves}
 use Rattle.trees.specs.Trees.{listOf, Sound, Lists, Found, withWanted}
-use Rattle.trees.proofs.Lists.{every-one, every-append, keep-cases}
-use Rattle.trees.proofs.LeafLaws.{TreeKind, leaves-some, leaves-tree, leaves-leaf}
+use Rattle.counterexample.proofs.Lists.{every-one, every-append, keep-cases}
+use Rattle.counterexample.proofs.LeafLaws.{TreeKind, leaves-some, leaves-tree, leaves-leaf}
 
 pub count-list : (x : Leaves) → Sound x → length (listOf x) ≡ x .count
 unfolding listOf
@@ -71,10 +71,11 @@ module _ (f : File) (k : ℕ) where
 
   unread-last : (xs : List ℕ) (x : ℕ) → unread (xs ++ x ∷ []) ≡ leaves f k x ++ unread xs
   unread-last [] x = sym (append-nil (leaves f k x))
-  unread-last (y ∷ xs) x = ap (λ (zs : List ℕ). zs ++ leaves f k y) (unread-last xs x) ∙ append-assoc (leaves f k x) (unread xs) (leaves f k y)
+  unread-last (y ∷ xs) x =
+      ap (λ (zs : List ℕ). zs ++ leaves f k y) (unread-last xs x) ∙ append-assoc (leaves f k x) (unread xs) (leaves f k y)
 
   -- what was found and what waits are all the leaves of e
-  pub record Walk (e : ℕ) (out waiting : Leaves) : Type 0 where
+  pub record Tour (e : ℕ) (out waiting : Leaves) : Type 0 where
     pub found : Sound out
     pub waits : Sound waiting
     pub room : out .count + waiting .count ≤ 9
@@ -85,30 +86,32 @@ module _ (f : File) (o : Ordered f) (k : ℕ) (tree : TreeKind k) (e : ℕ) wher
   unread-long [] = omega arith
   unread-long (x ∷ xs) = omega (arith, unread-long xs, leaves-some f o k tree x, length-append (unread f k xs) (leaves f k x))
 
-  pub walk-start : (out waiting : Leaves) → Lists out [] → Lists waiting (e ∷ []) → Walk f k e out waiting
-  walk-start out waiting h w = record {
+  pub tour-start : (out waiting : Leaves) → Lists out [] → Lists waiting (e ∷ []) → Tour f k e out waiting
+  tour-start out waiting h w = record {
     found = h .sound;
     waits = w .sound;
     room = omega (arith, h .size, w .size);
     whole = ap₂ (λ (xs ys : List ℕ). xs ++ unread f k ys) (h .same) (w .same);
   }
 
-  module _ (out waiting : Leaves) (v : Walk f k e out waiting) where
+  module _ (out waiting : Leaves) (v : Tour f k e out waiting) where
     -- nine are too many
-    pub walk-many : 9 ≤ out .count + waiting .count → (x : Leaves) → Sound x → x .count ≡ 9 → Found x (leaves f k e)
-    walk-many l x s n = record {
+    pub tour-many : 9 ≤ out .count + waiting .count → (x : Leaves) → Sound x → x .count ≡ 9 → Found x (leaves f k e)
+    tour-many l x s n = record {
       sound = s;
       all = λ h. absurd (omega (arith, h, n));
       few = λ h.
           let m = ap length (v .whole) in
-          absurd (omega (arith, h, m, length-append (listOf out) (unread f k (listOf waiting)), unread-long (listOf waiting), count-list out (v .found), count-list waiting (v .waits)));
+          let n = length-append (listOf out) (unread f k (listOf waiting)) in
+          absurd (omega (arith, h, m, n, unread-long (listOf waiting), count-list out (v .found), count-list waiting (v .waits)));
     }
 
-    pub walk-end : waiting .count ≤ 0 → Found out (leaves f k e)
+    pub tour-end : waiting .count ≤ 0 → Found out (leaves f k e)
     unfolding listOf
-    walk-end l =
+    tour-end l =
         let z : waiting .count ≡ 0 = omega arith in
-        let w : listOf out ≡ leaves f k e = sym (append-nil (listOf out)) ∙ ap (λ (n : ℕ). listOf out ++ unread f k (take n (waiting .items))) (sym z) ∙ v .whole in
+        let w : listOf out ≡ leaves f k e =
+        sym (append-nil (listOf out)) ∙ ap (λ (n : ℕ). listOf out ++ unread f k (take n (waiting .items))) (sym z) ∙ v .whole in
         let n : out .count ≡ length (leaves f k e) = sym (count-list out (v .found)) ∙ ap length w in
         record { sound = v .found; all = λ _. record { sound = v .found; same = w; size = n }; few = λ h. omega (arith, h, n) }
 
@@ -120,10 +123,12 @@ module _ (f : File) (o : Ordered f) (k : ℕ) (tree : TreeKind k) (e : ℕ) wher
       unread-head = ap (unread f k) (rest-last waiting (v .waits) some) ∙ unread-last f k (listOf (rest waiting)) head
 
       -- the next entry is a leaf
-      pub walk-leaf : T (not (eqb (kindAt f head) k)) → (more : Leaves) → Lists more (take 9 (listOf out ++ head ∷ [])) → (more .count ≡ out .count + 1) × Walk f k e more (rest waiting)
-      walk-leaf n more h =
+      pub tour-leaf : T (not (eqb (kindAt f head) k)) → (more : Leaves) → Lists more (take 9 (listOf out ++ head ∷ []))
+          → (more .count ≡ out .count + 1) × Tour f k e more (rest waiting)
+      tour-leaf n more h =
           let g = added out more head (v .found) (omega arith) h in
-          let c : more .count ≡ out .count + 1 = omega (arith, g .size, length-append (listOf out) (head ∷ []), count-list out (v .found)) in (
+          let m : length (listOf out ++ head ∷ []) ≡ length (listOf out) + 1 = length-append (listOf out) (head ∷ []) in
+          let c : more .count ≡ out .count + 1 = omega (arith, g .size, m, count-list out (v .found)) in (
             c,
             record {
               found = g .sound;
@@ -139,15 +144,18 @@ module _ (f : File) (o : Ordered f) (k : ℕ) (tree : TreeKind k) (e : ℕ) wher
           )
 
       -- the next entry is of the tree's kind, and the two that it names wait in its place
-      pub walk-tree : T (eqb (kindAt f head) k) → (a b : ℕ) → a ≡ child f head → b ≡ second (stateSetAt f head)
+      pub tour-tree : T (eqb (kindAt f head) k) → (a b : ℕ) → a ≡ child f head → b ≡ second (stateSetAt f head)
           → (more both : Leaves) → Lists more (take 9 (listOf (rest waiting) ++ b ∷ [])) → Lists both (take 9 (listOf more ++ a ∷ []))
-          → (both .count ≡ waiting .count + 1) × Walk f k e out both
-      walk-tree t a b p q more both h i =
+          → (both .count ≡ waiting .count + 1) × Tour f k e out both
+      tour-tree t a b p q more both h i =
           let r = rest-sound waiting (v .waits) in
           let g = added (rest waiting) more b r (omega (arith, v .room)) h in
-          let m : more .count ≡ waiting .count = omega (arith, g .size, length-append (listOf (rest waiting)) (b ∷ []), count-list (rest waiting) r) in
+          let l : length (listOf (rest waiting) ++ b ∷ []) ≡ length (listOf (rest waiting)) + 1 =
+          length-append (listOf (rest waiting)) (b ∷ []) in
+          let m : more .count ≡ waiting .count = omega (arith, g .size, l, count-list (rest waiting) r) in
           let j = added more both a (g .sound) (omega arith) i in
-          let c : both .count ≡ waiting .count + 1 = omega (arith, j .size, length-append (listOf more) (a ∷ []), count-list more (g .sound), m) in
+          let n : length (listOf more ++ a ∷ []) ≡ length (listOf more) + 1 = length-append (listOf more) (a ∷ []) in
+          let c : both .count ≡ waiting .count + 1 = omega (arith, j .size, n, count-list more (g .sound), m) in
           let s : unread f k (listOf both) ≡ unread f k (listOf waiting) =
           ap (unread f k) (j .same) ∙ unread-last f k (listOf more) a
           ∙ ap (λ (xs : List ℕ). leaves f k a ++ unread f k xs) (g .same)
@@ -156,7 +164,12 @@ module _ (f : File) (o : Ordered f) (k : ℕ) (tree : TreeKind k) (e : ℕ) wher
           ∙ rw (p, q) (ap (λ (xs : List ℕ). xs ++ unread f k (listOf (rest waiting))) (sym (leaves-tree f o k tree head t)))
           ∙ sym unread-head in (
             c,
-            record { found = v .found; waits = j .sound; room = omega (arith, c); whole = ap (λ (xs : List ℕ). listOf out ++ xs) s ∙ v .whole },
+            record {
+              found = v .found;
+              waits = j .sound;
+              room = omega (arith, c);
+              whole = ap (λ (xs : List ℕ). listOf out ++ xs) s ∙ v .whole;
+            },
           )
 
 -- ---- going through a list
@@ -176,7 +189,9 @@ keep-append t (x ∷ xs) ys = go (t x) (keep-append t xs ys)
 pub keep-short : (t : ℕ → Bool) (xs : List ℕ) → length (keep t xs) ≤ length xs
 unfolding keep
 keep-short t [] = omega arith
-keep-short t (x ∷ xs) = let h = keep-short t xs in keep-cases t (λ ys. length ys ≤ suc (length xs)) x xs (λ _. omega arith) (λ _. omega arith)
+keep-short t (x ∷ xs) =
+    let h = keep-short t xs in
+    keep-cases t (λ ys. length ys ≤ suc (length xs)) x xs (λ _. omega arith) (λ _. omega arith)
 
 module _ (t : ℕ → Bool) (xs : List ℕ) (n i : ℕ) (few : n ≤ 9) (room : length xs ≡ 9) where
   -- all are passed
@@ -190,7 +205,8 @@ module _ (t : ℕ → Bool) (xs : List ℕ) (n i : ℕ) (few : n ≤ 9) (room : 
   next l = rw add-one (take-suc xs i 0 (omega arith))
 
   pub every-next : i < n → (a b : Bool) → a ≡ every t (take i xs) → b ≡ t (getD xs i 0) → (a && b) ≡ every t (take (i + 1) xs)
-  every-next l a b p q = rw (next l) (ap₂ _&&_ p (q ∙ sym (every-one t (getD xs i 0))) ∙ sym (every-append t (take i xs) (getD xs i 0 ∷ [])))
+  every-next l a b p q =
+      rw (next l) (ap₂ _&&_ p (q ∙ sym (every-one t (getD xs i 0))) ∙ sym (every-append t (take i xs) (getD xs i 0 ∷ [])))
 
   pub keep-next : i < n → (x y : Leaves) (want : Bool) → Lists x (keep t (take i xs)) → want ≡ t (getD xs i 0)
       → Lists y (withWanted (listOf x) (getD xs i 0) want) → Lists y (keep t (take (i + 1) xs))
@@ -199,8 +215,12 @@ module _ (t : ℕ → Bool) (xs : List ℕ) (n i : ℕ) (few : n ≤ 9) (room : 
       let w : List ℕ = keep t (take i xs) in
       let short : length w ≤ i = omega (arith, keep-short t (take i xs), length-take-le i xs (omega arith)) in
       let s : withWanted w (getD xs i 0) (t (getD xs i 0)) ≡ w ++ keep t (getD xs i 0 ∷ []) = go (t (getD xs i 0)) w (omega arith) in
-      subst (Lists y) (ap (λ (es : List ℕ). withWanted es (getD xs i 0) want) (p .same) ∙ ap (withWanted w (getD xs i 0)) q ∙ s ∙ sym (keep-append t (take i xs) (getD xs i 0 ∷ [])) ∙ ap (keep t) (sym (next l))) h
+      let wanted : withWanted (listOf x) (getD xs i 0) want ≡ w ++ keep t (getD xs i 0 ∷ []) =
+      ap (λ (es : List ℕ). withWanted es (getD xs i 0) want) (p .same) ∙ ap (withWanted w (getD xs i 0)) q ∙ s in
+      subst (Lists y) (wanted ∙ sym (keep-append t (take i xs) (getD xs i 0 ∷ [])) ∙ ap (keep t) (sym (next l))) h
     where
-      go : (b : Bool) (w : List ℕ) → length w < 9 → _≡_ {A = List ℕ} (elim b [ true ↦ take 9 (w ++ getD xs i 0 ∷ []) | false ↦ w ]) (w ++ elim b [ true ↦ getD xs i 0 ∷ [] | false ↦ [] ])
+      go : (b : Bool) (w : List ℕ) → length w < 9
+          → _≡_ {A = List ℕ} (elim b [ true ↦ take 9 (w ++ getD xs i 0 ∷ []) | false ↦ w ])
+          (w ++ elim b [ true ↦ getD xs i 0 ∷ [] | false ↦ [] ])
       go true w s = take-all 9 (w ++ getD xs i 0 ∷ []) (omega (arith, length-append w (getD xs i 0 ∷ [])))
       go false w s = sym (append-nil w)

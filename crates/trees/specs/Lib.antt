@@ -1,3 +1,1 @@
-pub mod Counter
 pub mod Trees
-pub mod Flat

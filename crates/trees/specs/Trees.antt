@@ -6,35 +6,36 @@ use mathlib.Core.Bool.{Bool, true, false, not, _&&_, _||_}
 use mathlib.Core.List.{List, [], _∷_, _++_}
 use lib.ListN.{length, take}
 use lib.Dec.{eqb}
-use Rattle.certificate.specs.declared.Span.{Span}
 use Rattle.certificate.specs.declared.StateEntry.{StateEntry}
-use Rattle.certificate.specs.declared.StateEntry.the-variants.{Empty, Init, Goal, Explicit, Horn, TwoCnf, Complement, Intersection, Union, Progression, Regression}
+use Rattle.certificate.specs.declared.StateEntry.the-variants.{Basic, Complement, Intersection, Union, Progression, Regression}
 use Rattle.meaning.specs.File.{File, stateSetAt}
 use Rattle.certificate.specs.Views.{viewOf}
-use Rattle.certificate.specs.Known.{statePlace}
+use Rattle.certificate.specs.Index.{statePlace}
 use Rattle.meaning.specs.Shapes.{kindAt, child, isBasic, isComplement}
+use Rattle.leaves.specs.Leaves.{kindOf}
 use Rattle.trees.specs.declared.Node.{Node}
 use Rattle.trees.specs.declared.Leaves.{Leaves}
 
--- an entry's kind, the place and count of its items, and the two entries that it names; 0 for what it lacks
-abbrev pub listing : ℕ → Span → Node
-listing k s = record { kind = k; at = s .at; count = s .count; first = 0; second = 0 }
-
-abbrev pub naming : ℕ → ℕ → ℕ → Node
-naming k a b = record { kind = k; at = 0; count = 0; first = a; second = b }
+-- an entry's kind and the two entries that it names; 0 where it names none
+abbrev pub numbers : ℕ → ℕ → ℕ → Node
+numbers k a b = record { kind = k; first = a; second = b }
 
 unfoldable pub nodeOf : StateEntry → Node
-nodeOf Empty = naming 0 0 0
-nodeOf Init = naming 1 0 0
-nodeOf Goal = naming 2 0 0
-nodeOf (Explicit s) = listing 3 s
-nodeOf (Horn s) = listing 4 s
-nodeOf (TwoCnf s) = listing 5 s
-nodeOf (Complement a) = naming 6 a 0
-nodeOf (Intersection a b) = naming 7 a b
-nodeOf (Union a b) = naming 8 a b
-nodeOf (Progression a b) = naming 9 a b
-nodeOf (Regression a b) = naming 10 a b
+nodeOf (Basic b) = numbers (kindOf b) 0 0
+nodeOf (Complement a) = numbers 6 a 0
+nodeOf (Intersection a b) = numbers 7 a b
+nodeOf (Union a b) = numbers 8 a b
+nodeOf (Progression a b) = numbers 9 a b
+nodeOf (Regression a b) = numbers 10 a b
+
+-- the entry is of kinds 0 to 5
+unfoldable pub isBasicEntry : StateEntry → Bool
+isBasicEntry (Basic b) = true
+isBasicEntry (Complement a) = false
+isBasicEntry (Intersection a b) = false
+isBasicEntry (Union a b) = false
+isBasicEntry (Progression a b) = false
+isBasicEntry (Regression a b) = false
 
 unfoldable pub nodeAt : List ℕ → File → ℕ → Node
 nodeAt index f e = nodeOf (viewOf (statePlace index e) (stateSetAt f e))

@@ -1,8 +1,8 @@
 // Entries by their numbers, and lists of few entries: the leaves of a tree, those of a kind, and tests of all.
-use certificate::Places;
-use certificate::Span;
+use certificate::Index;
 use certificate::StateEntry;
-use certificate::known::state_set;
+use certificate::lookup::state_set;
+use leaves::kind_of;
 ghost use mathlib.Core.Path.{_≡_};
 ghost use mathlib.Core.Bool.{_||_};
 ghost use mathlib.Core.List.{[], _∷_, _++_};
@@ -11,13 +11,11 @@ ghost use lib.Dec.{T, eqb};
 ghost use Rattle.certificate.specs.Known.{Known, decoded};
 ghost use Rattle.task.specs.Reach.{every};
 ghost use Rattle.meaning.specs.Shapes.{keep, leaves};
-ghost use Rattle.trees.specs.Trees.{listing, naming, nodeOf, nodeAt, listOf, Sound, Lists, Found, withWanted, hasKind, basicOr};
+ghost use Rattle.trees.specs.Trees.{numbers, nodeOf, nodeAt, listOf, Sound, Lists, Found, withWanted, hasKind, isBasicEntry, basicOr};
 
-// An entry's kind, the place and count of its items, and the two entries that it names; 0 for what it lacks.
+// An entry's kind and the two entries that it names; 0 where it names none.
 pub struct Node {
     pub kind: u8,
-    pub at: u32,
-    pub count: u16,
     pub first: u16,
     pub second: u16,
 }
@@ -28,55 +26,36 @@ pub struct Leaves {
     pub count: u8,
 }
 
-// The numbers of an entry with items, and of one without that names others.
-fn listing(kind: u8, s: Span) -> Node
-    ensures { λ r. ⌜ r ≡ listing kind s ⌝ }
+fn numbers(kind: u8, a: u16, b: u16) -> Node
+    ensures { λ r. ⌜ r ≡ numbers kind a b ⌝ }
 {
     Node {
         kind,
-        at: s.at,
-        count: s.count,
-        first: 0,
-        second: 0,
-    }
-}
-
-fn naming(kind: u8, a: u16, b: u16) -> Node
-    ensures { λ r. ⌜ r ≡ naming kind a b ⌝ }
-{
-    Node {
-        kind,
-        at: 0,
-        count: 0,
         first: a,
         second: b,
     }
 }
 
-pub fn node_of(x: StateEntry) -> Node
+// The numbers of an entry.
+fn node_of(x: StateEntry) -> Node
     ensures { λ r. ⌜ r ≡ nodeOf x ⌝ }
 {
     match x {
-        StateEntry::Empty => naming(0, 0, 0),
-        StateEntry::Init => naming(1, 0, 0),
-        StateEntry::Goal => naming(2, 0, 0),
-        StateEntry::Explicit(s) => listing(3, s),
-        StateEntry::Horn(s) => listing(4, s),
-        StateEntry::TwoCnf(s) => listing(5, s),
-        StateEntry::Complement(a) => naming(6, a, 0),
-        StateEntry::Intersection(a, b) => naming(7, a, b),
-        StateEntry::Union(a, b) => naming(8, a, b),
-        StateEntry::Progression(a, b) => naming(9, a, b),
-        StateEntry::Regression(a, b) => naming(10, a, b),
+        StateEntry::Basic(b) => numbers(kind_of(b), 0, 0),
+        StateEntry::Complement(a) => numbers(6, a, 0),
+        StateEntry::Intersection(a, b) => numbers(7, a, b),
+        StateEntry::Union(a, b) => numbers(8, a, b),
+        StateEntry::Progression(a, b) => numbers(9, a, b),
+        StateEntry::Regression(a, b) => numbers(10, a, b),
     }
 }
 
-// The numbers of an entry.
-pub fn node_at(file: &[u8], at: Places, index: &[u16; 768], e: u16) -> Node
-    requires { ⌜ Known (now file) at (now index) ⌝ }
+// The numbers of the entry with a number.
+pub fn node_at(file: &[u8], index: &Index, e: u16) -> Node
+    requires { ⌜ Known (now file) (now index) ⌝ }
     ensures { λ r. ⌜ r ≡ nodeAt (now (index .entry)) (decoded (now (file .entry))) e ⌝ }
 {
-    node_of(state_set(file, at, index, e))
+    node_of(state_set(file, index, e))
 }
 
 // One entry more, where there are fewer than nine.
@@ -114,8 +93,8 @@ pub fn one(e: u16) -> Leaves
 
 // The leaves of the tree of entries of kind k at entry e, where there are at most eight; else nine entries, whichever.
 // What is still to be looked at waits in a list, the next entry last. Each that waits has a leaf, so nine in all are too many.
-pub fn tree(file: &[u8], at: Places, index: &[u16; 768], k: u8, e: u16) -> Leaves
-    requires { ⌜ Known (now file) at (now index) ⌝ }
+pub fn tree(file: &[u8], index: &Index, k: u8, e: u16) -> Leaves
+    requires { ⌜ Known (now file) (now index) ⌝ }
     requires { ⌜ T (eqb k 7 || eqb k 8) ⌝ }
     ensures { λ r. ⌜ Found r (leaves (decoded (now (file .entry))) k e) ⌝ }
 {
@@ -132,7 +111,7 @@ pub fn tree(file: &[u8], at: Places, index: &[u16; 768], k: u8, e: u16) -> Leave
         let count = waiting.count - 1;
         let d = items[count as usize];
         let rest = Leaves { items, count };
-        let x = node_at(file, at, index, d);
+        let x = node_at(file, index, d);
         if x.kind == k {
             let more = with(rest, x.second);
             waiting = with(more, x.first);
@@ -153,17 +132,17 @@ fn with_wanted(xs: Leaves, e: u16, want: bool) -> Leaves
 }
 
 // Whether an entry is of kind k, or whether it is not.
-pub fn has_kind(file: &[u8], at: Places, index: &[u16; 768], e: u16, k: u8, is: bool) -> bool
-    requires { ⌜ Known (now file) at (now index) ⌝ }
+pub fn has_kind(file: &[u8], index: &Index, e: u16, k: u8, is: bool) -> bool
+    requires { ⌜ Known (now file) (now index) ⌝ }
     ensures { λ r. ⌜ r ≡ hasKind (decoded (now (file .entry))) k is e ⌝ }
 {
-    let x = node_at(file, at, index, e);
+    let x = node_at(file, index, e);
     if is { x.kind == k } else { x.kind != k }
 }
 
 // The entries of kind k, or those that are of other kinds.
-pub fn of_kind(file: &[u8], at: Places, index: &[u16; 768], xs: Leaves, k: u8, is: bool) -> Leaves
-    requires { ⌜ Known (now file) at (now index) ⌝ }
+pub fn of_kind(file: &[u8], index: &Index, xs: Leaves, k: u8, is: bool) -> Leaves
+    requires { ⌜ Known (now file) (now index) ⌝ }
     requires { ⌜ Sound xs ⌝ }
     ensures { λ r. ⌜ Lists r (keep (hasKind (decoded (now (file .entry))) k is) (listOf xs)) ⌝ }
 {
@@ -173,26 +152,37 @@ pub fn of_kind(file: &[u8], at: Places, index: &[u16; 768], xs: Leaves, k: u8, i
     let mut i = 0u8;
     while i < count {
         let e = items[i as usize];
-        let want = has_kind(file, at, index, e, k, is);
+        let want = has_kind(file, index, e, k, is);
         out = with_wanted(out, e, want);
         i += 1;
     }
     out
 }
 
+// Whether a state set is of kinds 0 to 5.
+fn basic(x: StateEntry) -> bool
+    ensures { λ r. ⌜ r ≡ isBasicEntry x ⌝ }
+{
+    let StateEntry::Basic(_) = x else {
+        return false;
+    };
+    true
+}
+
 // Whether an entry is of kinds 0 to 5 or, where that is allowed, the complement of one that is.
-fn is_basic(file: &[u8], at: Places, index: &[u16; 768], e: u16, turned: bool) -> bool
-    requires { ⌜ Known (now file) at (now index) ⌝ }
+fn is_basic(file: &[u8], index: &Index, e: u16, turned: bool) -> bool
+    requires { ⌜ Known (now file) (now index) ⌝ }
     ensures { λ r. ⌜ r ≡ basicOr (decoded (now (file .entry))) turned e ⌝ }
 {
-    let x = node_at(file, at, index, e);
-    let y = node_at(file, at, index, x.first);
-    (x.kind <= 5) | (turned & (x.kind == 6) & (y.kind <= 5))
+    let x = state_set(file, index, e);
+    let n = node_of(x);
+    let y = state_set(file, index, n.first);
+    basic(x) | (turned & (n.kind == 6) & basic(y))
 }
 
 // Whether all entries are.
-pub fn all_basic(file: &[u8], at: Places, index: &[u16; 768], xs: Leaves, turned: bool) -> bool
-    requires { ⌜ Known (now file) at (now index) ⌝ }
+pub fn all_basic(file: &[u8], index: &Index, xs: Leaves, turned: bool) -> bool
+    requires { ⌜ Known (now file) (now index) ⌝ }
     requires { ⌜ Sound xs ⌝ }
     ensures { λ r. ⌜ r ≡ every (basicOr (decoded (now (file .entry))) turned) (listOf xs) ⌝ }
 {
@@ -202,7 +192,7 @@ pub fn all_basic(file: &[u8], at: Places, index: &[u16; 768], xs: Leaves, turned
     let mut i = 0u8;
     while i < count {
         let e = items[i as usize];
-        let basic = is_basic(file, at, index, e, turned);
+        let basic = is_basic(file, index, e, turned);
         all = all & basic;
         i += 1;
     }

@@ -9,7 +9,9 @@ use Rattle.actions.proofs.actions_within.Tie as tie
 returns : tie.Need-returns
 returns c =
     let s = c .before .before .before .before in
-    c .all-marked .ensures ∙ within-marks _ _ _ (s .pre .0) (s .args .a) (s .args .b) _ _ (c .before .before .action-marks .ensures) (c .before .action-marks2 .ensures)
+    let a = c .before .before .action-marks .ensures in
+    let b = c .before .action-marks2 .ensures in
+    c .all-marked .ensures ∙ within-marks _ _ (s .pre .0) (s .args .a) (s .args .b) _ _ a b
 
 pub actions-within-spec : {M : Type 1} → statement M
 actions-within-spec =

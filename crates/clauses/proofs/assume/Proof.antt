@@ -11,12 +11,17 @@ returns : tie.Need-returns
 returns c = assumed-conflict _ _ _ _ _ (c .before .opposite .ensures) (c .if1 .taken)
 
 returns-2 : tie.Need-returns-2
-returns-2 c = assumed-same _ _ _ _ _ (c .before .before .before .opposite .ensures) (c .before .alike .ensures .finds (holds (c .if2 .taken)))
+returns-2 c =
+    assumed-same _ _ _ _ _ (c .before .before .before .opposite .ensures) (c .before .alike .ensures .finds (holds (c .if2 .taken)))
 
 solve-requires : tie.Need-solve-requires
 solve-requires c κs =
-    let s = c .before .before .before .before .before .before in
-    (s .pre .0, λ e d p. record { seen = s .args .x; after = λ b f. le-refl _; until = c .before .before .before .opposite .ensures .goes .grows; settled = s .pre .1 d p })
+    let failed = c .before .before .before in
+    let s = failed .before .before .before in (
+      s .pre .0,
+      λ e d p.
+          record { seen = s .args .x; after = λ b f. le-refl _; until = failed .opposite .ensures .goes .grows; settled = s .pre .1 d p },
+    )
 
 returns-3 : tie.Need-returns-3
 returns-3 c = assumed-solved _ _ _ _ _ (c .before .before .before .before .opposite .ensures) _ (c .solve .ensures)

@@ -2,20 +2,24 @@
 -- Assumes nothing.
 use borrow.Author.Needs.{needs}
 use Prim.Native.Nat.{_≤_, _-_}
-use Rattle.propagation.proofs.CodeLaws.{before-at}
+use Rattle.task.proofs.Tests.{holds}
+use Rattle.clauses.proofs.OpenLaws.{before-at}
 use Rattle.clauses.proofs.is_before.Statement.{statement}
 use Rattle.clauses.proofs.is_before.Tie as tie
 
 abbrev Inv-loop : tie.InvT-loop
-Inv-loop left m kind at count j₀ j = j ≤ m
+Inv-loop left m set j₀ j = j ≤ m
 
 abbrev μ-loop : tie.MeasureT-loop
-μ-loop left m kind at count j₀ j = m - j
+μ-loop left m set j₀ j = m - j
 
 returns-2 : tie.Need-returns-2 Inv-loop μ-loop
 returns-2 c =
-    let a = c .before .before .before .before .before .before .before .before .args in
-    λ t. (search needs, before-at (a .left .now) (a .m) (a .kind) (a .at) (a .count) (c .before .before .before .before .before .before .loop .j) (search needs) (c .if2 .taken))
+    let taken = c .before .before .before in
+    let a = taken .before .before .before .before .before .before .before .args in
+    let same = c .before .before .same-words in
+    λ t. before-at (a .left .now) (a .m) (taken .before .before .loop .j) (a .set) (search needs)
+    (taken .leaf-at .result) (taken .leaf-at .ensures) (same .result) (same .ensures) (holds (c .if1 .taken))
 
 pub is-before-spec : {M : Type 1} → statement M
 is-before-spec =
@@ -23,20 +27,13 @@ is-before-spec =
     (tie.spec
     Inv-loop
     μ-loop
+    (λ c κs. search needs)
+    (λ c. search needs)
+    (λ c. search needs)
     (λ c t. absurd t)
     (λ c. search needs)
-    (λ c. search needs)
-    (λ c. search needs)
-    (λ c. search needs)
-    (λ c. search needs)
-    (λ c. search needs)
-    (λ c. search needs)
-    (λ c. search needs)
-    (λ c. search needs)
-    (λ c. search needs)
-    (λ c. search needs)
-    (λ c. search needs)
-    (λ c. search needs)
+    (λ c κs. search needs)
+    (λ c κs. search needs)
     returns-2
     (λ c. search needs)
     (λ c. search needs)

@@ -1,18 +1,33 @@
--- `clauses::next_open` meets its contract.
+-- `clauses::next_open` meets its contract: only clauses in the file are passed over.
 -- Assumes nothing.
+use mathlib.Core.Path.{sym, _∙_}
 use borrow.Author.Needs.{needs}
 use native.Mathlib.Omega.{arith}
+use Rattle.propagation.proofs.WordsLaws.{count-there, clause-there, inside-there}
 use Rattle.clauses.proofs.next_open.Statement.{statement}
 use Rattle.clauses.proofs.next_open.Tie as tie
 
-next-hit-requires : tie.Need-next-hit-requires
-next-hit-requires c κs = let s = c .before .before in (s .pre .0, s .pre .1 (c .if1 .taken))
+next-word-requires : tie.Need-next-word-requires
+next-word-requires c κs =
+    let words = c .before .before .before in
+    let h = words .before .before .pre in
+    let e = sym (words .words-of .ensures) ∙ c .before .s .given .1 in
+    let n = count-there _ e in
+    (omega (arith, h .0, n), λ b. inside-there _ _ e (h .1 b))
 
 returns : tie.Need-returns
-returns c = let h = c .next-hit .ensures in (h .from, h .until, λ j l m. (c .before .if1 .taken, h .past j l m))
-
-returns-2 : tie.Need-returns-2
-returns-2 c = (search needs, search needs, λ j l m. absurd (omega arith))
+returns c =
+    let e = sym (c .before .before .before .before .words-of .ensures) ∙ c .before .before .s .given .1 in
+    let o = c .next-word .ensures in
+    (o .0, rw (count-there _ e) (o .1), λ ends j l m. let p = o .2 j l m in (p .0, rw (clause-there _ ends _ j e) (p .1)))
 
 pub next-open-spec : {M : Type 1} → statement M
-next-open-spec = tie.close (tie.spec next-hit-requires returns returns-2)
+next-open-spec =
+    tie.close
+    (tie.spec
+    (λ c κs. search needs)
+    (λ c. search needs)
+    next-word-requires
+    (λ c. search needs)
+    returns
+    (λ c. (search needs, search needs, λ ends j l m. absurd (omega arith))))

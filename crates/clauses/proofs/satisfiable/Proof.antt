@@ -3,7 +3,7 @@
 use Prim.Native.Nat.{_≤_, _<_, _-_, _^_}
 use borrow.Author.Needs.{needs}
 use Rattle.clauses.proofs.SeekLaws.{Trying, trying-none, trying-more, trying-done, trying-none-left, usable-shaped}
-use Rattle.propagation.specs.Propagation.{LeftOf}
+use Rattle.propagation.specs.Clauses.{LeftOf}
 use Rattle.clauses.proofs.satisfiable.Statement.{statement}
 use Rattle.clauses.proofs.satisfiable.Tie as tie
 
@@ -16,22 +16,33 @@ abbrev μ-loop : tie.MeasureT-loop
 loop-holds : tie.Need-loop-holds Inv-loop μ-loop
 loop-holds c = (search needs, search needs, trying-none _ _ _ (c .before .before .pre .1 .0) (c .before .before .pre .1 .1))
 
-decide-requires : tie.Need-decide-requires Inv-loop μ-loop
-decide-requires c κs = (search needs, c .before .before .before .before .pre .0 .1 .room, c .before .loop .inv .2 .settled)
+tell-requires : tie.Need-tell-requires Inv-loop μ-loop
+tell-requires c κs = (search needs, c .before .before .before .before .pre .0 .1, c .before .loop .inv .2 .settled)
 
 returns : tie.Need-returns Inv-loop μ-loop
 returns c =
-    let s = c .before .before .before .before .before .before in
+    let loop = c .before .before .before in
+    let s = loop .before .before .before in
+    let shaped = usable-shaped _ _ _ (s .pre .0 .1) in
     record {
       finds = λ e. absurd e;
-      sees = trying-none-left _ _ (s .pre .0 .0) (usable-shaped _ _ _ _ _ _ _ (s .pre .0 .1)) (c .before .before .before .loop .inv .2) (c .before .before .before .loop .inv .1) (c .before .decide .ensures) (c .if1 .taken);
+      sees = trying-none-left _ _ (s .pre .0 .0) shaped (loop .loop .inv .2) (loop .loop .inv .1)
+          (c .before .tell .ensures) (c .if1 .taken);
     }
 
 loop-again : tie.Need-loop-again Inv-loop μ-loop
-loop-again c = (search needs, search needs, trying-more _ _ (c .before .before .before .loop .inv .2) (c .before .decide .ensures) (c .if1 .left))
+loop-again c =
+    let loop = c .before .before .before in
+    (search needs, search needs, trying-more _ _ (loop .loop .inv .2) (c .before .tell .ensures) (c .if1 .left))
 
 returns-2 : tie.Need-returns-2 Inv-loop μ-loop
-returns-2 c = record { finds = λ e. trying-done _ _ (c .before .before .before .before .pre .0 .0) (search needs) (c .before .loop .inv .2) (c .before .loop .inv .1); sees = λ m. tt }
+returns-2 c =
+    let loop = c .before in
+    let s = loop .before .before .before in
+    record {
+      finds = λ e. trying-done _ _ (s .pre .0 .0) (search needs) (loop .loop .inv .2) (loop .loop .inv .1);
+      sees = λ m. tt;
+    }
 
 pub satisfiable-spec : {M : Type 1} → statement M
 satisfiable-spec =
@@ -40,7 +51,7 @@ satisfiable-spec =
     Inv-loop
     μ-loop
     loop-holds
-    decide-requires
+    tell-requires
     returns
     (λ c. search needs)
     (λ c. search needs)

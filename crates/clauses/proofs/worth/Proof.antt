@@ -15,12 +15,12 @@ satisfiable-requires c κs =
 returns-2 : tie.Need-returns-2
 returns-2 c =
     let s = c .before .before .before .before .before in
-    worth-two _ _ _ _ _ _ _ (c .before .if2 .taken) (s .pre .0) (c .satisfiable .ensures)
+    worth-two _ _ _ (s .pre .0) _ (c .before .if2 .taken) (c .satisfiable .ensures)
 
 returns-3 : tie.Need-returns-3
 returns-3 c =
     let s = c .before .before .before .before in
-    worth-horn _ _ _ _ _ _ _ (c .if2 .left) (s .pre .0)
+    worth-horn _ _ _ (s .pre .0) _ (c .if2 .left)
 
 pub worth-spec : {M : Type 1} → statement M
 worth-spec = tie.close (tie.spec returns satisfiable-requires returns-2 returns-3)

@@ -1,35 +1,57 @@
--- `inclusion::one_refutes`: either search finds what makes the gathered statement untrue.
+-- `inclusion::one_refutes`: either search tells whether the action makes the statement untrue.
 -- Assumes nothing.
-use mathlib.Core.Logic.{Iff·trans}
+use mathlib.Core.Path.{_≡_}
+use mathlib.Core.Logic.{_↔_, Iff·trans}
+use Prim.Native.Nat.{_≤_}
 use native.Mathlib.Omega.{arith}
+use lib.ListN.{length}
 use borrow.Author.Needs.{needs}
-use Rattle.certificate.proofs.KnownLaws.{known-fit}
-use Rattle.inclusion.proofs.FlatGathered.{listed-refuted}
-use Rattle.inclusion.proofs.FlatReady.{ready, usable, tells-refuted}
+use Rattle.inclusion.proofs.RightTwo.{unlisted-both, countered-both}
 use Rattle.inclusion.proofs.one_refutes.Statement.{statement}
 use Rattle.inclusion.proofs.one_refutes.Tie as tie
 
 shown-requires : tie.Need-shown-requires
 shown-requires c κs =
     let s = c .before .before .before .before .before .before .before in
-    ready _ _ _ (s .pre .0) _ _ _ _ _ _ (s .pre .1 .0) (c .before .before .if1 .taken)
+    let h = s .pre .0 in
+    let a = h .anchored (c .before .before .before .before .if1 .taken) in
+    ((h .room-left, h .room-right, a .0, a .1), (h .orderly-left, h .orderly-right))
 
 returns : tie.Need-returns
-returns c =
-    let s = c .before .before .before .before .before .before .before .before in
-    Iff·trans (c .shown .ensures) (listed-refuted _ _ _ (s .pre .0) _ _ _ _ _ _ (s .pre .1 .0) (c .before .before .before .if1 .taken) (s .args .a))
+returns c = c .shown .ensures
 
 refuted-requires : tie.Need-refuted-requires
 refuted-requires c κs =
-    let s = c .before .before .before .before .before .before .before in
-    (known-fit _ _ _ (s .pre .0) .few-facts, omega arith, usable _ _ _ (s .pre .0) _ _ _ _ _ _ (s .pre .1 .0) (c .before .before .if1 .left))
+    let s = c .before .before .before .before .before in
+    let h = s .pre .0 in
+    let q = c .before .before .if1 .left in
+    let room : 2 ≤ length (s .args .right .now) = search needs in (
+      (h .facts, s .pre .1),
+      (
+        h .room-left,
+        room,
+        h .clausal-left q,
+        unlisted-both (s .args .right .now) _ (h .few-right q) room (h .no-more) (h .clausal-right q),
+      ),
+    )
 
 returns-2 : tie.Need-returns-2
 returns-2 c =
-    let s = c .before .before .before .before .before .before .before .before in
-    tells-refuted _ _ _ (s .pre .0) _ _ _ _ _ _ (s .pre .1 .0) (c .before .before .before .if1 .left) (s .args .a) (s .pre .1 .1) (c .refuted .result) (c .refuted .ensures)
+    let s = c .before .before .before .before .before .before in
+    let h = s .pre .0 in
+    let q = c .before .before .before .if1 .left in
+    let room : 2 ≤ length (s .args .right .now) = search needs in
+    let e = c .refuted .ensures in
+    Iff·trans (e .finds, e .sees) (countered-both (s .args .right .now) _ (h .few-right q) room (h .no-more) _ _ _ _)
 
 pub one-refutes-spec : {M : Type 1} → statement M
 one-refutes-spec =
     tie.close
-    (tie.spec (λ c. search needs) (λ c. search needs) (λ c. search needs) shown-requires returns refuted-requires returns-2)
+    (tie.spec
+    (λ c. search needs)
+    (λ c. search needs)
+    (λ c. search needs)
+    shown-requires
+    returns
+    refuted-requires
+    returns-2)

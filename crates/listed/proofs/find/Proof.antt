@@ -1,7 +1,7 @@
--- `listed::listed::find` meets its contract. The invariant: where the state is among them, it stands from `lo` on and before
+-- `listed::find` meets its contract. The invariant: where the state is among them, it stands from `lo` on and before
 -- `hi`, and so does the next one looked at.
 -- Assumes nothing.
-use Prim.Native.Nat.{_+_, _-_, _≤_, _<_, _^_}
+use Prim.Native.Nat.{ℕ, _+_, _-_, _≤_, _<_, _^_}
 use native.Mathlib.Omega.{arith}
 use mathlib.Core.Path.{_≡_}
 use borrow.Author.Needs.{needs}
@@ -33,22 +33,29 @@ u64-in-requires : tie.Need-u64-in-requires Inv-loop μ-loop
 u64-in-requires c κs = omega (arith, below c, last c, c .before .before .before .before .pre .inside)
 
 -- it is the state with that number
+abbrev start : tie.After-u64-in Inv-loop μ-loop → tie.Start Inv-loop μ-loop
+start c = c .before .before .before .before .before
+
 found : (c : tie.After-u64-in Inv-loop μ-loop)
-    → c .u64-in .result ≡ word (c .before .before .before .before .before .args .file .now) (c .before .before .before .before .before .args .at) (c .before .before .loop .mid)
+    → c .u64-in .result ≡ word (start c .args .file .now) (start c .args .at) (c .before .before .loop .mid)
 found c =
-    let s = c .before .before .before .before .before in
-    word-in _ _ _ (c .before .before .loop .mid) (s .pre .inside) (omega (arith, below (c .before), last (c .before))) (c .u64-in .ensures)
+    let v = c .before in
+    word-in _ _ _ (v .before .loop .mid) (start c .pre .inside) (omega (arith, below v, last v)) (c .u64-in .ensures)
 
 returns : tie.Need-returns Inv-loop μ-loop
 returns c = search-found _ _ _ _ (found (c .before)) (omega (arith, below (c .before .before), last (c .before .before))) (search needs)
 
-up : (c : tie.After-u64-in Inv-loop μ-loop) → c .u64-in .result < c .before .before .before .before .before .args .s
-    → Bracket (c .before .before .before .before .before .args .file .now) (c .before .before .before .before .before .args .at) (c .before .before .before .before .before .args .count) (c .before .before .before .before .before .args .s) (c .before .before .loop .mid + 1) (c .before .before .loop .hi)
-up c l = bracket-up _ _ _ _ (c .before .before .before .before .before .pre .ascend) (c .before .before .loop .inv .0) (found c) (below (c .before)) l
+-- the bounds that are left
+abbrev Left : tie.After-u64-in Inv-loop μ-loop → ℕ → ℕ → Type 0
+Left c lo hi = let a = start c .args in Bracket (a .file .now) (a .at) (a .count) (a .s) lo hi
 
-down : (c : tie.After-u64-in Inv-loop μ-loop) → c .before .before .before .before .before .args .s < c .u64-in .result
-    → Bracket (c .before .before .before .before .before .args .file .now) (c .before .before .before .before .before .args .at) (c .before .before .before .before .before .args .count) (c .before .before .before .before .before .args .s) (c .before .before .loop .lo) (c .before .before .loop .mid)
-down c l = bracket-down _ _ _ _ (c .before .before .before .before .before .pre .ascend) (c .before .before .loop .inv .0) (found c) (below (c .before)) l
+up : (c : tie.After-u64-in Inv-loop μ-loop) → c .u64-in .result < start c .args .s
+    → Left c (c .before .before .loop .mid + 1) (c .before .before .loop .hi)
+up c l = bracket-up _ _ _ _ (start c .pre .ascend) (c .before .before .loop .inv .0) (found c) (below (c .before)) l
+
+down : (c : tie.After-u64-in Inv-loop μ-loop) → start c .args .s < c .u64-in .result
+    → Left c (c .before .before .loop .lo) (c .before .before .loop .mid)
+down c l = bracket-down _ _ _ _ (start c .pre .ascend) (c .before .before .loop .inv .0) (found c) (below (c .before)) l
 
 loop-again : tie.Need-loop-again Inv-loop μ-loop
 loop-again c =

@@ -1,4 +1,4 @@
--- `listed::listed::first_open` meets its contract. The invariant: each state that was passed is held.
+-- `listed::first_open` meets its contract. The invariant: each state that was passed is closed.
 -- Assumes nothing.
 use Prim.Native.Nat.{ℕ, _-_, _≤_, _<_}
 use mathlib.Core.Path.{subst, sym, _∙_}
@@ -7,14 +7,14 @@ use native.Mathlib.Omega.{arith}
 use lib.Dec.{ltb, lt→ltb}
 use borrow.Author.Needs.{needs}
 use Rattle.task.proofs.Tests.{is-true}
-use Rattle.listed.specs.Search.{Held}
+use Rattle.listed.specs.Search.{Closed}
 use Rattle.listed.proofs.SearchLaws.{word, word-in, from-more}
 use Rattle.listed.proofs.first_open.Statement.{statement}
 use Rattle.listed.proofs.first_open.Tie as tie
 
 abbrev Inv-loop : tie.InvT-loop
 Inv-loop file at count from a first states place many near₀ i₀ near i =
-    (i ≤ count) × (from ≤ i) × ((k : ℕ) → from ≤ k → k < i → Held file (record { at = place; count = many }) a (word file at k))
+    (i ≤ count) × (from ≤ i) × ((k : ℕ) → from ≤ k → k < i → Closed file (record { at = place; count = many }) a (word file at k))
 
 abbrev μ-loop : tie.MeasureT-loop
 μ-loop file at count from a first states place many near₀ i₀ near i = count - i
@@ -23,27 +23,29 @@ loop-holds : tie.Need-loop-holds Inv-loop μ-loop
 loop-holds c = (search needs, search needs, λ k l h. absurd (omega arith))
 
 u64-in-requires : tie.Need-u64-in-requires Inv-loop μ-loop
-u64-in-requires c κs = let h = c .before .before .before .pre .1 in search needs
+u64-in-requires c κs = let h = c .before .before .before .before .pre .1 in search needs
 
 loop-again : tie.Need-loop-again Inv-loop μ-loop
 loop-again c =
-    let s = c .before .before .before .before .before .before in
+    let w = c .before .before .before .before in
+    let s = w .before .before .before in
     let a = s .args in
-    let v = c .before .before .before .before .loop in
+    let v = w .loop in
     let e = word-in (a .file .now) (a .at) (a .count) (v .i) (s .pre .1) (search needs) (c .before .before .u64-in .ensures) in (
       search needs,
       search needs,
-      from-more (λ k. Held (a .file .now) (a .rows) (a .a) (word (a .file .now) (a .at) k)) (a .from) (v .i) (v .inv .2)
-          (subst (Held (a .file .now) (a .rows) (a .a)) e (elim (c .if1 .came) [
+      from-more (λ k. Closed (a .file .now) (a .rows) (a .a) (word (a .file .now) (a .at) k)) (a .from) (v .i) (v .inv .2)
+          (subst (Closed (a .file .now) (a .rows) (a .a)) e (elim (c .if1 .came) [
             | inl w ↦
                 let l : w .2 .result < a .rows .count = omega (arith, w .3 .left) in
-                inr (rw (w .1 .ensures) at (sym (w .2 .ensures) ∙ is-true (ltb (w .2 .result) (a .rows .count)) (lt→ltb (w .2 .result) (a .rows .count) l)))
+                inr (rw (w .1 .ensures) at (sym (w .2 .ensures)
+                ∙ is-true (ltb (w .2 .result) (a .rows .count)) (lt→ltb (w .2 .result) (a .rows .count) l)))
             | inr w ↦ inl (sym (c .before .applies .ensures) ∙ w .0 .left)
           ])),
     )
 
 find-requires : tie.Need-find-requires Inv-loop μ-loop
-find-requires c κs = c .before .before .before .before .before .before .before .pre .2
+find-requires c κs = let w = c .before .before .before .before in w .before .before .before .before .pre .2
 
 returns : tie.Need-returns Inv-loop μ-loop
 returns c = c .before .before .before .before .before .before .before .loop .inv
@@ -57,6 +59,7 @@ first-open-spec =
     (tie.spec
     Inv-loop
     μ-loop
+    (λ c. search needs)
     loop-holds
     (λ c. search needs)
     (λ c. search needs)

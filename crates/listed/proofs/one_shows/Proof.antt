@@ -1,65 +1,79 @@
--- `listed::listed::one_shows` meets its contract. The invariant: none of the first `i` states shows it.
+-- `listed::one_shows` meets its contract. The invariant: none of the first `i` states shows it.
 -- Assumes nothing.
-use Prim.Native.Nat.{_-_, _≤_}
+use Prim.Native.Nat.{ℕ, _-_, _≤_}
 use mathlib.Core.Path.{_≡_, ap, sym, _∙_}
-use mathlib.Core.Bool.{false}
+use mathlib.Core.Bool.{Bool, false}
 use borrow.Author.Needs.{needs}
 use Rattle.meaning.specs.Sets.{someBelow}
-use Rattle.listed.specs.Search.{showsIn}
+use Rattle.listed.specs.Search.{Closed, showsIn}
 use Rattle.listed.proofs.SearchLaws.{word, word-in}
-use Rattle.listed.proofs.ShownLaws.{rows-ordered, held-shows}
-use Rattle.listed.proofs.ListedLaws.{some-none, some-more, some-range, some-found, some-done}
+use Rattle.listed.proofs.ShownLaws.{rows-ordered, closed-shows}
+use Rattle.listed.proofs.LoopLaws.{some-none, some-more, some-range, some-found, some-done}
 use Rattle.listed.proofs.one_shows.Statement.{statement}
 use Rattle.listed.proofs.one_shows.Tie as tie
 
 abbrev Inv-loop : tie.InvT-loop
-Inv-loop file init goal left m right r but a at count rows states i₀ i =
-    (i ≤ count) × (someBelow i (λ k. showsIn file init goal a left m right r but (word file at k)) ≡ false)
+Inv-loop file ends left m right r anchor a rows at count states i₀ i =
+    (i ≤ count) × (someBelow i (λ k. showsIn file ends a left m right r anchor (word file at k)) ≡ false)
 
 abbrev μ-loop : tie.MeasureT-loop
-μ-loop file init goal left m right r but a at count rows states i₀ i = count - i
+μ-loop file ends left m right r anchor a rows at count states i₀ i = count - i
+
+-- whether state k shows it
+abbrev shows : tie.Start Inv-loop μ-loop → ℕ → Bool
+shows c k =
+    let a = c .args in
+    showsIn (a .file .now) (a .ends) (a .a) (a .left .now) (a .m) (a .right .now) (a .r) (a .anchor) (word (a .file .now) (a .x .at) k)
+
+-- not where it is closed
+closed-not : (c : tie.After-struct-known Inv-loop μ-loop) → let s = c .before .before .before .before .before in
+    let a = s .args in
+    (k : ℕ) → Closed (a .file .now) (c .before .rows-after .result) (a .a) (word (a .file .now) (a .x .at) k) → shows s k ≡ false
+closed-not c k = closed-shows _ _ _ _ _ _ _ _ _ _ (c .before .rows-after .ensures)
+
+-- the test of a turn
+tested : (c : tie.After-shows-in Inv-loop μ-loop) → let v = c .before .before .before in
+    shows (v .before .before .before .before .before .before .before) (v .loop .i) ≡ c .shows-in .result
+tested c =
+    let v = c .before .before .before in
+    let s = v .before .before .before .before .before .before .before in
+    let a = s .args in
+    let e = word-in (a .file .now) (a .x .at) (a .x .count) (v .loop .i) (s .pre .1) (search needs) (c .before .u64-in .ensures) in
+    ap (showsIn _ _ _ _ _ _ _ _) (sym e) ∙ sym (c .shows-in .ensures)
 
 rows-after-requires : tie.Need-rows-after-requires Inv-loop μ-loop
-rows-after-requires c κs = c .before .before .before .pre .1 .0 .room
+rows-after-requires c κs = c .before .before .before .pre .0 .1 .0
 
 first-open-requires : tie.Need-first-open-requires Inv-loop μ-loop
 first-open-requires c κs =
-    let s = c .before .before .before .before in
-    (search needs, s .pre .1 .1, rows-ordered _ _ _ _ _ _ (s .pre .1 .0) (c .rows-after .ensures))
+    let s = c .before .before .before .before .before in
+    (search needs, s .pre .1, rows-ordered _ _ _ _ (s .pre .0 .1) (c .before .rows-after .ensures))
 
 loop-holds : tie.Need-loop-holds Inv-loop μ-loop
 loop-holds c =
-    let s = c .before .before .before .before .before in
-    let a = s .args in
-    (c .first-open .ensures .0, some-range (λ k. showsIn (a .file .now) (a .init) (a .goal) (a .a) (a .left .now) (a .m) (a .right .now) (a .r) (a .but) (word (a .file .now) (a .at) k)) 0 _ (some-none _) (λ k l m. held-shows (a .file .now) (a .init) (a .goal) (a .right .now) (a .r) _ (a .a) (a .left .now) (a .m) (a .but) _ (c .before .rows-after .ensures) (c .first-open .ensures .2 k l m)))
+    (c .first-open .ensures .0, some-range _ 0 _ (some-none _) (λ k l m. closed-not (c .before) k (c .first-open .ensures .2 k l m)))
 
 u64-in-requires : tie.Need-u64-in-requires Inv-loop μ-loop
-u64-in-requires c κs = let h = c .before .before .before .before .before .before .before .pre .1 .1 in search needs
+u64-in-requires c κs = let v = c .before .before in let h = v .before .before .before .before .before .before .pre .1 in search needs
 
 shows-in-requires : tie.Need-shows-in-requires Inv-loop μ-loop
-shows-in-requires c κs = let s = c .before .before .before .before .before .before .before .before in (s .pre .0, s .pre .1 .0)
+shows-in-requires c κs = let v = c .before .before in v .before .before .before .before .before .before .before .pre .0
 
 returns : tie.Need-returns Inv-loop μ-loop
-returns c =
-    let s = c .before .before .before .before .before .before .before .before .before .before in
-    let a = s .args in
-    let e = sym (word-in (a .file .now) (a .at) (a .count) (c .before .before .before .before .loop .i) (s .pre .1 .1) (search needs) (c .before .before .u64-in .ensures)) in
-    some-found _ _ (c .before .before .before .before .loop .i) (search needs) (ap (showsIn (a .file .now) (a .init) (a .goal) (a .a) (a .left .now) (a .m) (a .right .now) (a .r) (a .but)) e ∙ sym (c .before .shows-in .ensures) ∙ c .if1 .taken)
+returns c = some-found _ _ (c .before .before .before .before .loop .i) (search needs) (tested (c .before) ∙ c .if1 .taken)
 
 first-open-requires-2 : tie.Need-first-open-requires-2 Inv-loop μ-loop
 first-open-requires-2 c κs =
-    let s = c .before .before .before .before .before .before .before .before .before .before in
-    (search needs, s .pre .1 .1, rows-ordered _ _ _ _ _ _ (s .pre .1 .0) (c .before .before .before .before .before .before .rows-after .ensures))
+    let v = c .before .before .before .before .before .before in
+    let s = v .before .before .before .before .before in
+    (search needs, s .pre .1, rows-ordered _ _ _ _ (s .pre .0 .1) (v .before .rows-after .ensures))
 
 loop-again : tie.Need-loop-again Inv-loop μ-loop
 loop-again c =
-    let s = c .before .before .before .before .before .before .before .before .before .before .before in
-    let a = s .args in
-    let e = sym (word-in (a .file .now) (a .at) (a .count) (c .before .before .before .before .before .loop .i) (s .pre .1 .1) (search needs) (c .before .before .before .u64-in .ensures)) in (
+    let v = c .before .before .before .before .before in (
       c .first-open2 .ensures .0,
-      some-range (λ k. showsIn (a .file .now) (a .init) (a .goal) (a .a) (a .left .now) (a .m) (a .right .now) (a .r) (a .but) (word (a .file .now) (a .at) k)) _ _
-          (some-more (λ k. showsIn (a .file .now) (a .init) (a .goal) (a .a) (a .left .now) (a .m) (a .right .now) (a .r) (a .but) (word (a .file .now) (a .at) k)) _ (c .before .before .before .before .before .loop .inv .1) (ap (showsIn (a .file .now) (a .init) (a .goal) (a .a) (a .left .now) (a .m) (a .right .now) (a .r) (a .but)) e ∙ sym (c .before .before .shows-in .ensures) ∙ c .before .if1 .left))
-          (λ k l m. held-shows (a .file .now) (a .init) (a .goal) (a .right .now) (a .r) _ (a .a) (a .left .now) (a .m) (a .but) _ (c .before .before .before .before .before .before .before .rows-after .ensures) (c .first-open2 .ensures .2 k l m)),
+      some-range _ _ _ (some-more _ _ (v .loop .inv .1) (tested (c .before .before) ∙ c .before .if1 .left))
+          (λ k l m. closed-not (v .before .before) k (c .first-open2 .ensures .2 k l m)),
     )
 
 returns-2 : tie.Need-returns-2 Inv-loop μ-loop
@@ -72,8 +86,11 @@ one-shows-spec =
     Inv-loop
     μ-loop
     rows-after-requires
+    (λ c. search needs)
+    (λ c. search needs)
     first-open-requires
     loop-holds
+    (λ c. search needs)
     (λ c. search needs)
     (λ c. search needs)
     u64-in-requires

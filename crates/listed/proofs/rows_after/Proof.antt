@@ -1,28 +1,19 @@
--- `listed::listed::rows_after` meets its contract.
+-- `listed::rows_after` meets its contract.
 -- Assumes nothing.
-use mathlib.Core.Path.{refl}
+use mathlib.Core.Path.{refl, sym, ap, _∙_}
 use mathlib.Core.Logic.{inl, inr}
-use lib.Dec.{eqb, eqb→eq}
-use lib.ListN.{getD}
 use borrow.Author.Needs.{needs}
-use Rattle.task.proofs.Tests.{holds, and-left, and-right}
+use borrow.Author.Tests.{not-false}
+use Rattle.leaves.specs.declared.Leaf.{Leaf}
 use Rattle.listed.proofs.rows_after.Statement.{statement}
 use Rattle.listed.proofs.rows_after.Tie as tie
 
-returns-2 : tie.Need-returns-2
-returns-2 c =
-    let xs = c .before .before .before .before .before .before .args .right .now in
-    let t = holds (c .before .before .if2 .taken) in
-    inr ((search needs, eqb→eq (getD xs 0 0) 3 (and-left (eqb (getD xs 0 0) 3) (eqb (getD xs 3 0) 1) t), eqb→eq (getD xs 3 0) 1 (and-right (eqb (getD xs 0 0) 3) (eqb (getD xs 3 0) 1) t)), refl)
+returns-4 : tie.Need-returns-4
+returns-4 c =
+    let v = c .before .before .before in
+    let e = sym (v .before .before .leaf-at .ensures) in
+    inr (search needs, ap (λ (x : Leaf). x .set) e ∙ c .before .set .given .1, ap (λ (x : Leaf). x .after) e ∙ not-false _ (v .if2 .left))
 
 pub rows-after-spec : {M : Type 1} → statement M
 rows-after-spec =
-    tie.close
-    (tie.spec
-    (λ c. inl refl)
-    (λ c. search needs)
-    (λ c. search needs)
-    (λ c. search needs)
-    (λ c. search needs)
-    returns-2
-    (λ c. inl refl))
+    tie.close (tie.spec (λ c. inl refl) (λ c κs. search needs) (λ c. inl refl) (λ c. search needs) (λ c. inl refl) returns-4)

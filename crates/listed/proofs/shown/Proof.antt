@@ -1,25 +1,59 @@
--- `listed::listed::shown` meets its contract.
+-- `listed::shown` meets its contract: the anchor lists no state, one, or those of a span.
 -- Assumes nothing.
-use Rattle.listed.proofs.ShownLaws.{shown-none, shown-one, shown-some}
+use mathlib.Core.Path.{_≡_, ap, subst, sym, _∙_}
+use mathlib.Core.Bool.{false}
+use mathlib.Core.Logic.{_↔_}
+use lib.Dec.{T}
 use borrow.Author.Needs.{needs}
-use Rattle.task.proofs.Tests.{same}
+use Rattle.certificate.specs.declared.BasicEntry.{BasicEntry}
+use Rattle.leaves.specs.declared.Leaf.{Leaf}
+use Rattle.leaves.specs.Leaves.{leafIn, leavesIn}
+use Rattle.leaves.specs.Holds.{Orderly}
+use Rattle.leaves.specs.Lists.{Countered}
+use Rattle.listed.specs.Listed.{ListsStates}
+use Rattle.listed.proofs.ShownLaws.{orderly-leaf, shown-none, shown-never, shown-one, shown-some}
 use Rattle.listed.proofs.shown.Statement.{statement}
 use Rattle.listed.proofs.shown.Tie as tie
 
+-- the anchor's set
+set-is : (c : tie.After-leaf-at) (y : BasicEntry) → c .leaf-at .result .set ≡ y → let a = c .before .before .before .before .args in
+    leafIn (a .left .now) (a .anchor) .set ≡ y
+set-is c y e = ap (λ (x : Leaf). x .set) (sym (c .leaf-at .ensures)) ∙ e
+
+never : (c : tie.After-leaf-at) (y : BasicEntry) → c .leaf-at .result .set ≡ y → let a = c .before .before .before .before .args in
+    (ListsStates (a .file .now) (a .ends) y → ⊥)
+    → T false ↔ Countered (a .file .now) (a .ends) (a .a) (leavesIn (a .left .now) (a .m)) (leavesIn (a .right .now) (a .r))
+never c y e n =
+    let p = c .before .before .before .before .pre .0 in
+    shown-never _ _ _ _ _ _ _ _ (p .0) (p .1) (p .2) (p .3) y (set-is c y e) n
+
+shows-in-requires : tie.Need-shows-in-requires
+shows-in-requires c κs = let p = c .before .before .before .before .before .before .pre in ((p .0 .0, p .1 .0), (p .0 .1, p .1 .1))
+
 one-shows-requires : tie.Need-one-shows-requires
 one-shows-requires c κs =
-    let s = c .before .before .before .before .before .before .before .before in
-    (s .pre .lefts, (s .pre .rights, s .pre .lefts .ordered (s .args .anchor) (s .pre .anchored) (same (c .before .before .match .keys2)) .inside))
+    let v = c .before .before .before in
+    let p = v .before .before .before .before .pre in
+    let o = orderly-leaf _ _ _ (p .0 .0, p .1 .0) _ (p .0 .2) (v .leaf-at .ensures) in
+    (((p .0 .0, p .1 .0), (p .0 .1, p .1 .1)), subst (Orderly _) (c .before .set .given .1) o .inside)
 
-returns : tie.Need-returns
-returns c = shown-one _ _ _ _ _ _ _ _ _ (c .before .before .before .spared .ensures) (c .before .match .keys1) (c .shows-in .ensures)
+returns-empty : tie.Need-returns
+returns-empty c =
+    let v = c .before .before in
+    let p = v .before .before .before .before .pre .0 in
+    shown-none _ _ _ _ _ _ _ _ (p .0) (p .1) (p .2) (p .3) (set-is v _ (c .enum-told .given .1))
 
-returns-2 : tie.Need-returns-2
-returns-2 c =
-    shown-some _ _ _ _ _ _ _ _ _ (c .before .before .before .before .before .spared .ensures) (c .before .before .before .match .keys2) (c .one-shows .ensures)
+returns-init : tie.Need-returns-2
+returns-init c =
+    let v = c .before .before .before in
+    let p = v .before .before .before .before .pre .0 in
+    shown-one _ _ _ _ _ _ _ _ (p .0) (p .1) (p .2) (p .3) (set-is v _ (c .before .enum-told2 .given .1)) (c .shows-in .ensures)
 
-returns-3 : tie.Need-returns-3
-returns-3 c = shown-none _ _ _ _ _ _ _ _ _ (c .match .rest .0 .1) (c .match .rest .1)
+returns-explicit : tie.Need-returns-4
+returns-explicit c =
+    let v = c .before .before .before .before in
+    let p = v .before .before .before .before .pre .0 in
+    shown-some _ _ _ _ _ _ _ _ (p .0) (p .1) (p .2) (p .3) _ (set-is v _ (c .before .before .set .given .1)) (c .one-shows .ensures)
 
 pub shown-spec : {M : Type 1} → statement M
 shown-spec =
@@ -28,15 +62,15 @@ shown-spec =
     (λ c κs. search needs)
     (λ c. search needs)
     (λ c. search needs)
-    (λ c. search needs)
-    (λ c κs. search needs)
-    (λ c. search needs)
-    (λ c. search needs)
-    (λ c. search needs)
-    (λ c. search needs)
+    shows-in-requires
     (λ c. search needs)
     (λ c. search needs)
     one-shows-requires
-    returns
-    returns-2
-    returns-3)
+    (λ c. search needs)
+    (λ c. search needs)
+    returns-empty
+    returns-init
+    (λ c. never (c .before .before) _ (c .enum-told3 .given .1) (λ x. x))
+    returns-explicit
+    (λ c. never (c .before .before) _ (c .enum-told4 .given .1) (λ x. x))
+    (λ c. never (c .before .before) _ (c .enum-told5 .given .1) (λ x. x)))

@@ -1,6 +1,6 @@
 -- `propagation::effect_of` meets its contract.
 -- Assumes nothing.
-use Rattle.propagation.specs.Propagation.{acting, effectOf}
+use Rattle.propagation.specs.Clauses.{acting, effectOf}
 use Rattle.propagation.proofs.CodeLaws.{no-effect}
 use borrow.Author.Needs.{needs}
 use Rattle.propagation.proofs.effect_of.Statement.{statement}

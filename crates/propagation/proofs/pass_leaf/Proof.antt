@@ -1,63 +1,40 @@
--- `propagation::pass_leaf` meets its contract.
+-- `propagation::pass_leaf` meets its contract: the clauses are read, or are the set's own.
 -- Assumes nothing.
-use Rattle.propagation.proofs.LeafLaws.{passed-kind, passed-words, words-leaf}
-use Rattle.propagation.proofs.PassLaws.{going-none, passed-any}
-use Rattle.propagation.proofs.RestLaws.{based-on}
+use mathlib.Core.Path.{sym, _∙_}
 use borrow.Author.Needs.{needs}
+use Rattle.propagation.proofs.PassLaws.{passed-any}
+use Rattle.propagation.proofs.WordsLaws.{ruled-there, based-there, all-there, all-own}
 use Rattle.propagation.proofs.pass_leaf.Statement.{statement}
 use Rattle.propagation.proofs.pass_leaf.Tie as tie
 
+pass-span-requires : tie.Need-pass-span-requires
+pass-span-requires c κs =
+    let words = c .before .before .before in
+    let h = words .before .before .before .pre in
+    let e = sym (words .words-of .ensures) ∙ c .before .s .given .1 in
+    (ruled-there _ _ _ e (h .0) .inside, rw (words .before .effect-of .ensures) (based-there _ _ _ _ e (h .1)))
+
 returns : tie.Need-returns
 returns c =
-    let a = c .before .before .before .before .before .before .before .before .before .args in
-    passed-kind (a .file .now) (a .k .init) (a .k .goal) (a .k .action) (a .leaves .now) (a .j) (passed-any _ (rw (c .before .before .effect-of .ensures) at (c .pass-any .ensures)))
-
-pass-words-requires : tie.Need-pass-words-requires
-pass-words-requires c κs =
-    let s = c .before .before .before .before .before .before .before .before .before in
-    s .pre .0 .inside (search needs)
+    let words = c .before .before .before .before in
+    let e = sym (words .words-of .ensures) ∙ c .before .before .s .given .1 in
+    rw (all-there _ _ _ _ e) (rw (words .before .effect-of .ensures) at (c .pass-span .ensures))
 
 returns-2 : tie.Need-returns-2
 returns-2 c =
-    let a = c .before .before .before .before .before .before .before .before .before .before .args in
-    passed-words (a .file .now) (a .k .init) (a .k .goal) (a .k .action) (a .leaves .now) (a .j) (search needs) (passed-any _ (rw (c .before .before .before .effect-of .ensures) at (c .pass-words .ensures)))
-
-pass-touched-requires : tie.Need-pass-touched-requires
-pass-touched-requires c κs =
-    let s = c .before .before .before .before .before .before .before .before .before in
-    let a = s .args in (
-      s .pre .0 .inside (search needs),
-      rw (c .before .before .effect-of .ensures) (based-on (words-leaf (a .file .now) (a .k .init) (a .k .goal) (a .k .action) (a .leaves .now) (a .j) (search needs)) (λ e. s .pre .1 (c .if2 .left)) (going-none (λ t. ⊥) _)),
-    )
-
-returns-3 : tie.Need-returns-3
-returns-3 c =
-    let a = c .before .before .before .before .before .before .before .before .before .before .args in
-    passed-words (a .file .now) (a .k .init) (a .k .goal) (a .k .action) (a .leaves .now) (a .j) (search needs) (rw (c .before .before .before .effect-of .ensures) at (c .pass-touched .ensures))
+    let words = c .before .before .before in
+    let e = sym (words .words-of .ensures) ∙ c .before .enum-told .given .1 in
+    rw (all-own _ _ _ _ e) (passed-any _ (rw (words .before .effect-of .ensures) at (c .pass-own .ensures)))
 
 pub pass-leaf-spec : {M : Type 1} → statement M
 pass-leaf-spec =
     tie.close
     (tie.spec
-    (λ c. search needs)
-    (λ c. search needs)
-    (λ c. search needs)
-    (λ c. search needs)
-    (λ c. search needs)
-    (λ c. search needs)
-    (λ c. search needs)
-    (λ c. search needs)
-    (λ c. search needs)
-    (λ c. search needs)
-    (λ c. search needs)
-    (λ c. search needs)
-    (λ c. search needs)
-    (λ c. search needs)
-    (λ c. search needs)
     (λ c κs. search needs)
+    (λ c κs. search needs)
+    (λ c. search needs)
+    pass-span-requires
+    (λ c. search needs)
     (λ c κs. search needs)
     returns
-    pass-words-requires
-    returns-2
-    pass-touched-requires
-    returns-3)
+    returns-2)

@@ -4,7 +4,8 @@ use borrow.Author.Needs.{needs}
 use mathlib.Core.Path.{_≡_}
 use Rattle.propagation.proofs.PassLaws.{passed-none, passed-any, passed-more, passed-early}
 use Rattle.propagation.proofs.RestLaws.{passed-missed}
-use Rattle.propagation.specs.Propagation.{ofWords, Below, Passed}
+use Rattle.propagation.specs.Clauses.{ofWords, Below}
+use Rattle.propagation.specs.Propagation.{Passed}
 use native.Mathlib.Omega.{arith}
 use Prim.Native.Nat.{_≤_, _-_}
 use Rattle.propagation.proofs.pass_touched.Statement.{statement}
@@ -21,30 +22,38 @@ loop-holds c = (search needs, passed-none _ _)
 
 -- clauses that miss what came to fail need no look
 upto : (c : tie.After-next-hit Inv-loop μ-loop)
-    → let a = c .before .before .before .before .before .before .args in
-    Passed (a .two) (Below (ofWords (a .file .now) (a .at) (a .by)) (c .next-hit .result)) (a .start) (c .before .before .before .before .loop .x)
+    → let loop = c .before .before .before .before in
+    let a = loop .before .before .args in
+    Passed (a .two) (Below (ofWords (a .file .now) (a .at) (a .by)) (c .next-hit .result)) (a .start) (loop .loop .x)
 upto c =
     let loop = c .before .before .before .before in
     let s = loop .before .before in
     let a = s .args in
     let n = c .next-hit in
-    passed-missed (a .file .now) (a .at) (a .count) (a .by) (a .base) _ _ (loop .loop .i) (n .result) _ _ (s .pre .1) (n .ensures .from) (n .ensures .until)
-    (c .before .before .without .ensures) (c .before .without2 .ensures) (n .ensures .past) (loop .loop .inv .1)
+    passed-missed (a .file .now) (a .at) (a .count) (a .by) (a .base) _ _ (loop .loop .i) (n .result) _ _ (s .pre .1)
+    (n .ensures .from) (n .ensures .until) (c .before .before .without .ensures) (c .before .without2 .ensures)
+    (n .ensures .past) (loop .loop .inv .1)
 
 returns : tie.Need-returns Inv-loop μ-loop
 returns c = rw (c .if1 .taken) at (upto (c .before))
 
+-- the look at the clause that was found
+looked : (c : tie.After-unit Inv-loop μ-loop)
+    → let found = c .before .before .before .before in
+    let loop = found .before .before .before .before in
+    let a = loop .before .before .args in
+    Passed (a .two) (ofWords (a .file .now) (a .at) (a .by) (found .next-hit .result)) (loop .loop .x) (c .unit .result)
+looked c = passed-any _ (rw (c .before .pulled .ensures, c .before .before .words-in .ensures) at (c .unit .ensures))
+
 returns-2 : tie.Need-returns-2 Inv-loop μ-loop
 returns-2 c =
-    passed-early (ofWords _ _ _) _ _ (search needs) (c .if2 .taken) (upto (c .before .before .before .before .before))
-    (passed-any _ (rw (c .before .before .pulled .ensures, c .before .before .before .words-in .ensures) at (c .before .unit .ensures)))
+    let found = c .before .before .before .before .before in
+    passed-early (ofWords _ _ _) _ _ (search needs) (c .if2 .taken) (upto found) (looked (c .before))
 
 loop-again : tie.Need-loop-again Inv-loop μ-loop
-loop-again c = (
-  search needs,
-  passed-more (ofWords _ _ _) _ (upto (c .before .before .before .before .before))
-      (passed-any _ (rw (c .before .before .pulled .ensures, c .before .before .before .words-in .ensures) at (c .before .unit .ensures))),
-)
+loop-again c =
+    let found = c .before .before .before .before .before in
+    (search needs, passed-more (ofWords _ _ _) _ (upto found) (looked (c .before)))
 
 returns-3 : tie.Need-returns-3 Inv-loop μ-loop
 returns-3 c =

@@ -4,7 +4,8 @@ use borrow.Author.Needs.{needs}
 use mathlib.Core.Path.{_≡_}
 use mathlib.Core.Bool.{true}
 use Rattle.propagation.proofs.PassLaws.{passed-none, passed-more, passed-early}
-use Rattle.propagation.specs.Propagation.{ofWords, Below, Passed}
+use Rattle.propagation.specs.Clauses.{ofWords, Below}
+use Rattle.propagation.specs.Propagation.{Passed}
 use native.Mathlib.Omega.{arith}
 use Prim.Native.Nat.{_≤_, _-_}
 use Rattle.propagation.proofs.pass_words.Statement.{statement}
@@ -19,16 +20,22 @@ abbrev μ-loop : tie.MeasureT-loop
 loop-holds : tie.Need-loop-holds Inv-loop μ-loop
 loop-holds c = (search needs, passed-none _ _)
 
+-- the look at clause i
+looked : (c : tie.After-unit Inv-loop μ-loop)
+    → let loop = c .before .before .before .before in
+    let a = loop .before .before .args in
+    Passed true (ofWords (a .file .now) (a .at) (a .by) (loop .loop .i)) (loop .loop .x) (c .unit .result)
+looked c = rw (c .before .pulled .ensures, c .before .before .words-in .ensures) at (c .unit .ensures)
+
 returns : tie.Need-returns Inv-loop μ-loop
 returns c =
-    passed-early (ofWords _ _ _) _ _ (search needs) (c .if1 .taken) (c .before .before .before .before .before .loop .inv .1)
-    (rw (c .before .before .pulled .ensures, c .before .before .before .words-in .ensures) at (c .before .unit .ensures))
+    let loop = c .before .before .before .before .before in
+    passed-early (ofWords _ _ _) _ _ (search needs) (c .if1 .taken) (loop .loop .inv .1) (looked (c .before))
 
 loop-again : tie.Need-loop-again Inv-loop μ-loop
-loop-again c = (
-  search needs,
-  passed-more (ofWords _ _ _) _ (c .before .before .before .before .before .loop .inv .1) (rw (c .before .before .pulled .ensures, c .before .before .before .words-in .ensures) at (c .before .unit .ensures)),
-)
+loop-again c =
+    let loop = c .before .before .before .before .before in
+    (search needs, passed-more (ofWords _ _ _) _ (loop .loop .inv .1) (looked (c .before)))
 
 returns-2 : tie.Need-returns-2 Inv-loop μ-loop
 returns-2 c =

@@ -7,21 +7,19 @@ use mathlib.Core.Path.{_≡_, sym, ap, ap₂, _∙_}
 use Prim.Native.Nat.{ℕ, _<_, _≤_, _+_, _*_, _-_}
 use mathlib.Core.Bool.{false, not, _&&_, _||_}
 use mathlib.Core.Logic.{⊎-elim}
-use denote.Enum.Declared.{tagOf}
-use types.Run.{OneOf}
 use borrow.Fn.Kinds.{In}
 use borrow.Fn.PlainCycle.{Measures, is, falls, and}
 use Rattle.certificate.specs.declared.StateEntry.{StateEntry}
-use Rattle.meaning.specs.File.{Basic, StateSet, basic, File, stateSetAt}
+use Rattle.meaning.specs.File.{StateSet, File, stateSetAt}
+use lib.ListN.{length}
+use Rattle.task.specs.Inner.{endsOf}
 use Rattle.certificate.specs.Known.{Known, decoded}
 use Rattle.meaning.specs.Writing.{FitsStateSet}
-use Rattle.certificate.proofs.StateEntry.{the-type}
-use Rattle.certificate.proofs.KnownLaws.{known-fit, known-actions}
+use Rattle.certificate.proofs.KnownLaws.{read-file}
 use Rattle.certificate.proofs.SeenLaws.{StateSeen}
 use Rattle.meaning.specs.Sets.{stateNode, inSet, inActions}
 use Rattle.meaning.specs.Question.{hasProgression}
-use Rattle.question.proofs.AskLaws.{Clear, leafTags, seen, leaf-seen, clear-at, in-at, fits-at}
-use Rattle.question.proofs.AskedLeaves.{leaf-ordered, leaf-in}
+use Rattle.question.proofs.AskLaws.{Clear, seen, set-orderly, set-in, clear-at, in-at, fits-at}
 use Rattle.question.proofs.TriedLaws.{NoneOf, none-first, none-more, none-leads, one-leads, Tried, tried}
 use Rattle.question.proofs.member.Reads as member
 use Rattle.question.proofs.member.Kinds as member-kinds
@@ -29,14 +27,14 @@ use Rattle.question.proofs.+member+try_each_action.Lts-member as member
 use Rattle.question.proofs.try_each_action.Reads as try-each-action
 use Rattle.question.proofs.try_each_action.Kinds as try-each-action-kinds
 use Rattle.question.proofs.+member+try_each_action.Lts-try_each_action as try-each-action-lts
-use Rattle.certificate.proofs.known.action.Reads as action-reads
-use Rattle.certificate.proofs.known.state_set.Reads as state-set-reads
+use Rattle.certificate.proofs.lookup.action.Reads as action-reads
+use Rattle.certificate.proofs.lookup.action_count.Reads as action-count-reads
+use Rattle.certificate.proofs.lookup.state_set.Reads as state-set-reads
 use Rattle.actions.proofs.action_marks.Reads as action-marks-reads
-use Rattle.listed.proofs.leaf_holds.Reads as leaf-holds-reads
+use Rattle.listed.proofs.set_holds.Reads as set-holds-reads
 use Rattle.actions.proofs.marks.is_marked.Reads as is-marked-reads
 use Rattle.task.proofs.after.Reads as after-reads
 use Rattle.task.proofs.applies.Reads as applies-reads
-use Rattle.trees.proofs.node_of.Reads as node-of-reads
 use Rattle.question.proofs.+member+try_each_action.{statement}
 use Rattle.question.proofs.+member+try_each_action.Tie.{close}
 
@@ -60,10 +58,34 @@ module _ (t : ℕ) where
   try-below = and 2 try-each-action-kinds.ps (falls 2 try-each-action-kinds.ps _<_ μ-try-each-action t) try-each-action.Pre
 
   abbrev member-calls : member-lts.Claims
-  member-calls = (state-set-reads.Asked, state-set-reads.Learnt, member-below, member.Post, try-below, try-each-action.Post, node-of-reads.Asked, node-of-reads.Learnt, leaf-holds-reads.Asked, leaf-holds-reads.Learnt)
+  member-calls = (
+    state-set-reads.Asked,
+    state-set-reads.Learnt,
+    set-holds-reads.Asked,
+    set-holds-reads.Learnt,
+    member-below,
+    member.Post,
+    try-below,
+    try-each-action.Post,
+  )
 
   abbrev try-calls : try-each-action-lts.Claims
-  try-calls = (action-marks-reads.Asked, action-marks-reads.Learnt, action-reads.Asked, action-reads.Learnt, is-marked-reads.Asked, is-marked-reads.Learnt, applies-reads.Asked, applies-reads.Learnt, after-reads.Asked, after-reads.Learnt, member-below, member.Post)
+  try-calls = (
+    action-marks-reads.Asked,
+    action-marks-reads.Learnt,
+    action-count-reads.Asked,
+    action-count-reads.Learnt,
+    action-reads.Asked,
+    action-reads.Learnt,
+    is-marked-reads.Asked,
+    is-marked-reads.Learnt,
+    applies-reads.Asked,
+    applies-reads.Learnt,
+    after-reads.Asked,
+    after-reads.Learnt,
+    member-below,
+    member.Post,
+  )
 
   -- ---- member, once the entry was read
 
@@ -76,170 +98,174 @@ module _ (t : ℕ) where
   abbrev e : Place → ℕ
   e c = c .before .before .args .e
 
-  view : (c : Place) (w : StateEntry) → c .state-set .result ≡ w → StateSeen (c .before .before .args .file .now) w (stateSetAt (f c) (e c))
-  view c w z = seen _ _ _ (c .before .before .pre .1 .0) (e c) _ (c .state-set .ensures) w z
+  -- what is known of the file
+  known : (c : Place) → Known (c .before .before .args .file .now) (c .before .before .args .index .now)
+  known c = c .before .before .pre .1 .0 .0
 
-  leaf : (c : Place) → OneOf leafTags (tagOf the-type (c .state-set .result)) → (b : Basic) × (stateSetAt (f c) (e c) ≡ basic b)
-  leaf c h = leaf-seen _ _ _ (c .before .before .pre .1 .0) (e c) _ (c .state-set .ensures) h
+  view : (c : Place) (w : StateEntry) → c .state-set .result ≡ w
+      → StateSeen (c .before .before .args .file .now) w (stateSetAt (f c) (e c))
+  view c w z = seen _ _ (known c) (e c) _ (c .state-set .ensures) w z
 
   module _ (c : Place) (x : StateSet) (z : stateSetAt (f c) (e c) ≡ x) where
     -- no progression is beneath the entry, and what it names comes earlier
-    names : Clear (f c) x × FitsStateSet (f c .task .facts) (c .before .before .args .at .«action_sets») (e c) x
-    names = let s = c .before .before in (clear-at _ _ _ (s .pre .1 .0) (e c) x z (s .pre .1 .1), fits-at _ _ _ (s .pre .1 .0) (e c) x z)
+    names : Clear (f c) x × FitsStateSet (f c .task .facts) (length (f c .actionSets)) (e c) x
+    names = (clear-at _ _ (known c) (e c) x z (c .before .before .pre .1 .1), fits-at _ _ (known c) (e c) x z)
 
     -- what it holds
     holds : stateNode (f c) (inSet (f c)) x (c .before .before .args .s) ≡ inSet (f c) (e c) (c .before .before .args .s)
-    holds = let s = c .before .before in sym (in-at _ _ _ (s .pre .1 .0) (e c) x z (s .args .s))
+    holds = sym (in-at _ _ (known c) (e c) x z (c .before .before .args .s))
 
   -- an earlier entry with no progression may be asked
-  lower : (c : Place) (a : ℕ) → hasProgression (f c) a ≡ false → a < e c
-      → (2 * a < t) × (Known (c .before .before .args .file .now) (c .before .before .args .at) (c .before .before .args .index .now) × (hasProgression (f c) a ≡ false))
+  lower : (c : Place) (a : ℕ) → hasProgression (f c) a ≡ false → a < e c → let x = c .before .before .args in
+      (2 * a < t) × ((Known (x .file .now) (x .index .now) × (x .ends ≡ endsOf (f c .task))) × (hasProgression (f c) a ≡ false))
   lower c a p l = let s = c .before .before in (omega (arith, s .pre .0), (s .pre .1 .0, p))
+
+  basic-requires : member-lts.Need-set-holds-requires member-calls member-at member.Post
+  basic-requires c κs =
+      let v = c .before .before .before in
+      set-orderly _ _ (known v) (e v) _ (v .state-set .ensures) _ (c .before .b .given .1)
 
   complement-requires : member-lts.Need-member-requires member-calls member-at member.Post
   complement-requires c κs =
       let v = c .before .before .before in
-      let w = names v _ (view v _ (c .before .entry .given .1)) in
+      let w = names v _ (view v _ (c .before .a .given .1)) in
       lower v _ (w .0) (w .1)
 
   intersection-requires : member-lts.Need-member-requires-2 member-calls member-at member.Post
   intersection-requires c κs =
       let v = c .before .before .before in
-      let w = names v _ (view v _ (c .before .entry2 .given .1)) in
+      let w = names v _ (view v _ (c .before .a2 .given .1)) in
       lower v _ (w .0 .0) (w .1 .0)
 
   intersection-requires-2 : member-lts.Need-member-requires-3 member-calls member-at member.Post
   intersection-requires-2 c κs =
       let v = c .before .before .before .before in
-      let w = names v _ (view v _ (c .before .before .entry2 .given .1)) in
+      let w = names v _ (view v _ (c .before .before .a2 .given .1)) in
       lower v _ (w .0 .1) (w .1 .1)
 
   union-requires : member-lts.Need-member-requires-4 member-calls member-at member.Post
   union-requires c κs =
       let v = c .before .before .before in
-      let w = names v _ (view v _ (c .before .entry3 .given .1)) in
+      let w = names v _ (view v _ (c .before .a3 .given .1)) in
       lower v _ (w .0 .0) (w .1 .0)
 
   union-requires-2 : member-lts.Need-member-requires-5 member-calls member-at member.Post
   union-requires-2 c κs =
       let v = c .before .before .before .before in
-      let w = names v _ (view v _ (c .before .before .entry3 .given .1)) in
+      let w = names v _ (view v _ (c .before .before .a3 .given .1)) in
       lower v _ (w .0 .1) (w .1 .1)
 
   regression-requires : member-lts.Need-try-each-action-requires member-calls member-at member.Post
   regression-requires c κs =
       let v = c .before .before .before in
       let s = v .before .before in
-      let w = names v _ (view v _ (c .before .entry4 .given .1)) in
+      let w = names v _ (view v _ (c .before .a4 .given .1)) in
       let l = w .1 .0 in
       (omega (arith, s .pre .0), (s .pre .1 .0, (w .0, w .1 .1)))
 
-  leaf-requires : member-lts.Need-leaf-holds-requires member-calls member-at member.Post
-  leaf-requires c κs =
+  basic-returns : member-lts.Need-returns member-calls member-at member.Post
+  basic-returns c =
       let v = c .before .before .before .before in
-      let b = leaf v (c .before .before .before .match .keys6) in
-      leaf-ordered _ _ _ (v .before .before .pre .1 .0) (e v) _ (v .state-set .ensures) _ (c .before .before .node-of .ensures) (b .0) (b .1)
+      let s = v .before .before in
+      c .set-holds .ensures
+      ∙ set-in _ _ (known v) (e v) _ (v .state-set .ensures) _ (c .before .before .b .given .1) _ (s .pre .1 .0 .1) (s .args .s)
 
-  complement-returns : member-lts.Need-returns member-calls member-at member.Post
+  complement-returns : member-lts.Need-returns-2 member-calls member-at member.Post
   unfolding stateNode
   complement-returns c =
       let v = c .before .before .before .before in
-      ap not (c .member .ensures) ∙ holds v _ (view v _ (c .before .before .entry .given .1))
+      ap not (c .member .ensures) ∙ holds v _ (view v _ (c .before .before .a .given .1))
 
-  intersection-returns : member-lts.Need-returns-2 member-calls member-at member.Post
+  intersection-returns : member-lts.Need-returns-3 member-calls member-at member.Post
   unfolding stateNode
   intersection-returns c =
       let v = c .before .before .before .before .before in
-      ap₂ _&&_ (c .before .member2 .ensures) (c .member3 .ensures) ∙ holds v _ (view v _ (c .before .before .before .entry2 .given .1))
+      ap₂ _&&_ (c .before .member2 .ensures) (c .member3 .ensures) ∙ holds v _ (view v _ (c .before .before .before .a2 .given .1))
 
-  union-returns : member-lts.Need-returns-3 member-calls member-at member.Post
+  union-returns : member-lts.Need-returns-4 member-calls member-at member.Post
   unfolding stateNode
   union-returns c =
       let v = c .before .before .before .before .before in
-      ap₂ _||_ (c .before .member4 .ensures) (c .member5 .ensures) ∙ holds v _ (view v _ (c .before .before .before .entry3 .given .1))
+      ap₂ _||_ (c .before .member4 .ensures) (c .member5 .ensures) ∙ holds v _ (view v _ (c .before .before .before .a3 .given .1))
 
-  progression-returns : member-lts.Need-returns-4 member-calls member-at member.Post
+  progression-returns : member-lts.Need-returns-5 member-calls member-at member.Post
   progression-returns c = let v = c .before .before in absurd (names v _ (view v _ (c .enum-told .given .1)) .0)
 
-  regression-returns : member-lts.Need-returns-5 member-calls member-at member.Post
+  regression-returns : member-lts.Need-returns-6 member-calls member-at member.Post
   unfolding stateNode
   regression-returns c =
       let v = c .before .before .before .before in
-      c .try-each-action .ensures ∙ holds v _ (view v _ (c .before .before .entry4 .given .1))
-
-  leaf-returns : member-lts.Need-returns-6 member-calls member-at member.Post
-  leaf-returns c =
-      let v = c .before .before .before .before .before in
-      let s = v .before .before in
-      let b = leaf v (c .before .before .before .before .match .keys6) in
-      c .leaf-holds .ensures ∙ leaf-in _ _ _ (s .pre .1 .0) (e v) _ (v .state-set .ensures) _ (c .before .before .before .node-of .ensures) (b .0) (b .1) (s .args .s)
+      c .try-each-action .ensures ∙ holds v _ (view v _ (c .before .before .a4 .given .1))
 
   -- ---- try_each_action
 
   abbrev Inv-loop : try-each-action-lts.InvT-loop
-  Inv-loop file at index e a s marks count i₀ i = (i ≤ count) × NoneOf (decoded file .task) (inSet (decoded file) e) (inActions (decoded file) a) s i
+  Inv-loop file index ends e a s marks count i₀ i =
+      (i ≤ count) × NoneOf (decoded file .task) (inSet (decoded file) e) (inActions (decoded file) a) s i
 
   abbrev μ-loop : try-each-action-lts.MeasureT-loop
-  μ-loop file at index e a s marks count i₀ i = count - i
+  μ-loop file index ends e a s marks count i₀ i = count - i
 
   -- an action's number fits the marks
   few : try-each-action-lts.Need-is-marked-requires try-calls try-at try-each-action.Post Inv-loop μ-loop
-  few c κs = let h = known-fit _ _ _ (c .before .before .before .before .before .pre .1 .0) .few-actions in omega arith
+  few c κs =
+      let v = c .before .before .before in
+      let h = read-file _ (v .before .before .before .pre .1 .0 .0 .read) .task .few-actions in
+      omega (arith, v .action-count .ensures)
 
   -- the round's action
   abbrev Round : Type 0
   Round = try-each-action-lts.After-applies try-calls try-at try-each-action.Post Inv-loop μ-loop
 
   abbrev start : Round → try-each-action-lts.Start try-calls try-at try-each-action.Post Inv-loop μ-loop
-  start c = c .before .before .before .before .before .before .before
+  start c = let v = c .before .before .before .before in v .before .before .before .before
 
-  round : (c : Round)
-      → Tried (decoded (start c .args .file .now) .task) (inSet (decoded (start c .args .file .now)) (start c .args .e))
-      (inActions (decoded (start c .args .file .now)) (start c .args .a)) (start c .args .s) (c .before .before .before .before .loop .i)
+  round : (c : Round) → let a = start c .args in let g = decoded (a .file .now) in
+      Tried (g .task) (inSet g (a .e)) (inActions g (a .a)) (a .s) (c .before .before .before .before .loop .i)
       (c .before .before .action .result) (c .before .is-marked .result && c .applies .result)
   round c =
       let v = c .before .before in
-      tried _ _ _ _ _ (v .before .before .before .action-marks .ensures) _ (few v (c .before .is-marked .lifetimes)) _ (v .action .ensures) _ _ (c .before .is-marked .ensures) (c .applies .ensures)
+      let m = v .before .before .before .before .action-marks in
+      tried _ _ _ _ _ (m .ensures) _ (few v (c .before .is-marked .lifetimes)) _ (v .action .ensures) _ _
+      (c .before .is-marked .ensures) (c .applies .ensures)
 
   try-requires : try-each-action-lts.Need-member-requires try-calls try-at try-each-action.Post Inv-loop μ-loop
-  try-requires c κs =
-      let s = c .before .before .before .before .before .before .before .before .before in
-      (omega (arith, s .pre .0), (s .pre .1 .0, s .pre .1 .1 .0))
+  try-requires c κs = let s = start (c .before .before) in (omega (arith, s .pre .0), (s .pre .1 .0, s .pre .1 .1 .0))
 
   found-returns : try-each-action-lts.Need-returns try-calls try-at try-each-action.Post Inv-loop μ-loop
   found-returns c =
       let v = c .before .before .before .before in
       let m = v .before .before .before .before in
-      let s = m .before .before .before in
-      one-leads _ _ _ _ (m .loop .i) (s .args .at .actions) (known-actions _ _ _ (s .pre .1 .0)) (search needs)
-      (round v .led (c .before .before .before .if1 .taken) _ _ (c .before .before .after .ensures) (c .before .member .ensures) ∙ c .if2 .taken)
+      one-leads _ _ _ _ (m .loop .i) _ (m .before .action-count .ensures) (search needs)
+      (round v .led (c .before .before .before .if1 .taken) _ _ (c .before .before .after .ensures) (c .before .member .ensures)
+      ∙ c .if2 .taken)
 
   loop-again : try-each-action-lts.Need-loop-again try-calls try-at try-each-action.Post Inv-loop μ-loop
   loop-again c =
       let v = round (c .before) in (
         search needs,
         none-more _ _ _ _ _ (c .before .before .before .before .before .loop .inv .1)
-            (⊎-elim (λ w. v .led (w .0 .taken) _ _ (w .1 .ensures) (w .2 .ensures) ∙ w .3 .left) (λ w. v .passed-over (w .left)) (c .if1 .came)),
+            (⊎-elim (λ w. v .led (w .0 .taken) _ _ (w .1 .ensures) (w .2 .ensures) ∙ w .3 .left) (λ w. v .passed-over (w .left))
+            (c .if1 .came)),
       )
 
   none-returns : try-each-action-lts.Need-returns-2 try-calls try-at try-each-action.Post Inv-loop μ-loop
   none-returns c =
       let m = c .before in
-      let s = m .before .before .before in
-      let e : m .loop .i ≡ s .args .at .actions = omega arith in
-      none-leads _ _ _ _ (m .loop .i) (e ∙ known-actions _ _ _ (s .pre .1 .0)) (m .loop .inv .1)
+      let e : m .loop .i ≡ m .before .action-count .result = omega arith in
+      none-leads _ _ _ _ (m .loop .i) (e ∙ m .before .action-count .ensures) (m .loop .inv .1)
 
 pub +member+try-each-action-spec : {M : Type 1} → statement M
 +member+try-each-action-spec =
     close μ-member μ-try-each-action
     (λ t. member-lts.spec (member-calls t) (member-at t) member.Post
-    (λ c κs. search needs) (λ c. search needs) (complement-requires t)
+    (λ c κs. search needs) (λ c. search needs) (basic-requires t)
+    (λ c. search needs) (complement-requires t)
     (λ c. search needs) (intersection-requires t) (intersection-requires-2 t)
     (λ c. search needs) (union-requires t) (union-requires-2 t)
     (λ c. search needs) (λ c. search needs) (regression-requires t)
-    (λ c κs. search needs) (λ c. search needs) (λ c. search needs) (leaf-requires t)
-    (complement-returns t) (intersection-returns t) (union-returns t) (progression-returns t) (regression-returns t) (leaf-returns t))
+    (basic-returns t) (complement-returns t) (intersection-returns t) (union-returns t) (progression-returns t) (regression-returns t))
     λ t. try-each-action-lts.spec (try-calls t) (try-at t) try-each-action.Post (Inv-loop t) (μ-loop t)
-    (λ c κs. search needs) (λ c. (search needs, none-first _ _ _ _)) (λ c κs. search needs) (few t)
-    (λ c κs. search needs) (λ c κs. search needs) (try-requires t) (found-returns t)
+    (λ c κs. search needs) (λ c κs. c .before .before .pre .1 .0 .0 .read) (λ c. (search needs, none-first _ _ _ _))
+    (λ c κs. search needs) (few t) (λ c κs. search needs) (λ c κs. search needs) (try-requires t) (found-returns t)
     (λ c. search needs) (λ c. search needs) (loop-again t) (none-returns t)

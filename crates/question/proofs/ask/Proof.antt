@@ -2,24 +2,26 @@
 -- Assumes nothing.
 use mathlib.Core.Path.{_∙_, refl}
 use borrow.Author.Needs.{needs}
-use Rattle.certificate.proofs.OutlineKnown.{lawful-known, refused-read}
+use Rattle.certificate.specs.Known.{Placed}
+use Rattle.certificate.proofs.OutlineKnown.{lawful-placed, refused-read}
 use Rattle.question.proofs.AskableLaws.{read-answer, unread-answer}
 use Rattle.question.proofs.ask.Statement.{statement}
 use Rattle.question.proofs.ask.Tie as tie
 
+-- where the file is lawful, these are its places
+placed : (c : tie.After-known-told2) → Placed (c .before .before .before .before .before .args .file .now) (c .before .at .given .0 .0)
+placed c = lawful-placed _ (c .before .before .before .read-layout .ensures) _ (c .before .at .given .1)
+
 answer-requires : tie.Need-answer-requires
-answer-requires c κs =
-    let a = c .before .before .before .before in
-    lawful-known _ (a .before .before .read-layout .ensures) _ _ (a .at .given .1) (c .before .index-file .ensures)
+answer-requires c κs = let v = c .before in (placed (v .before), v .index-of .ensures)
 
 returns : tie.Need-returns
-returns c = (unread-answer _ _ _ _ _ (refused-read _ (c .before .before .before .read-layout .ensures) _ _ (c .before .number .given .1)), refl)
+returns c =
+    let v = c .before .before .before in
+    (unread-answer _ _ _ _ _ (refused-read _ (v .read-layout .ensures) _ _ (c .before .number .given .1)), refl)
 
 returns-2 : tie.Need-returns-2
-returns-2 c =
-    let a = c .before .before .before .before .before in
-    let k = lawful-known _ (a .before .before .read-layout .ensures) _ _ (a .at .given .1) (c .before .before .index-file .ensures) in
-    (c .answer .ensures ∙ read-answer _ _ _ _ (k .read), refl)
+returns-2 c = (c .answer .ensures ∙ read-answer _ _ _ _ (placed (c .before .before .before) .read), refl)
 
 pub ask-spec : {M : Type 1} → statement M
 ask-spec =
@@ -28,7 +30,7 @@ ask-spec =
     (λ c κs. search needs)
     (λ c. search needs)
     (λ c. search needs)
-    (λ c κs. search needs)
+    (λ c κs. placed c)
     answer-requires
     returns
     returns-2)

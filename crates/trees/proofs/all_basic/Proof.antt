@@ -13,11 +13,11 @@ use Rattle.trees.proofs.all_basic.Statement.{statement}
 use Rattle.trees.proofs.all_basic.Tie as tie
 
 abbrev Inv-loop : tie.InvT-loop
-Inv-loop file at index turned items count all₀ i₀ all i =
+Inv-loop file index turned items count all₀ i₀ all i =
     (i ≤ count) × (count ≤ 9) × (length items ≡ 9) × (all ≡ every (basicOr (decoded file) turned) (take i items))
 
 abbrev μ-loop : tie.MeasureT-loop
-μ-loop file at index turned items count all₀ i₀ all i = count - i
+μ-loop file index turned items count all₀ i₀ all i = count - i
 
 loop-holds : tie.Need-loop-holds Inv-loop μ-loop
 unfolding every

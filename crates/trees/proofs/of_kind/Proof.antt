@@ -13,11 +13,11 @@ use Rattle.trees.proofs.of_kind.Statement.{statement}
 use Rattle.trees.proofs.of_kind.Tie as tie
 
 abbrev Inv-loop : tie.InvT-loop
-Inv-loop file at index k is items count out₀ i₀ out i =
+Inv-loop file index k is items count out₀ i₀ out i =
     (i ≤ count) × (count ≤ 9) × (length items ≡ 9) × Lists out (keep (hasKind (decoded file) k is) (take i items))
 
 abbrev μ-loop : tie.MeasureT-loop
-μ-loop file at index k is items count out₀ i₀ out i = count - i
+μ-loop file index k is items count out₀ i₀ out i = count - i
 
 loop-holds : tie.Need-loop-holds Inv-loop μ-loop
 unfolding keep
@@ -29,7 +29,8 @@ with-wanted-requires c κs = c .before .before .loop .inv .3 .sound
 loop-again : tie.Need-loop-again Inv-loop μ-loop
 loop-again c =
     let v = c .before .before .before .loop .inv in
-    (omega arith, v .1, v .2, keep-next _ _ _ _ (v .1) (v .2) (c .before .before .loop-test .taken) _ _ _ (v .3) (c .before .has-kind .ensures) (c .with-wanted .ensures))
+    let more = c .before .before .loop-test .taken in
+    (omega arith, v .1, v .2, keep-next _ _ _ _ (v .1) (v .2) more _ _ _ (v .3) (c .before .has-kind .ensures) (c .with-wanted .ensures))
 
 returns : tie.Need-returns Inv-loop μ-loop
 unfolding listOf

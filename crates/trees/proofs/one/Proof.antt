@@ -10,7 +10,9 @@ use Rattle.trees.proofs.one.Statement.{statement}
 use Rattle.trees.proofs.one.Tie as tie
 
 returns : tie.Need-returns
-returns c = subst (λ (es : List ℕ). Lists (c .with .result) (take 9 (es ++ c .before .before .args .e ∷ []))) (c .before .none .ensures .same) (c .with .ensures)
+returns c =
+    let e = c .before .before .args .e in
+    subst (λ (es : List ℕ). Lists (c .with .result) (take 9 (es ++ e ∷ []))) (c .before .none .ensures .same) (c .with .ensures)
 
 pub one-spec : {M : Type 1} → statement M
 one-spec = tie.close (tie.spec (λ c κs. search needs) (λ c κs. c .none .ensures .sound) returns)

@@ -13,7 +13,8 @@ returns : tie.Need-returns
 unfolding marked
 returns c =
     let s = c .before .before .before .before in
-    rw (c .before .before .before .within-word .ensures, c .before .before .within-word2 .ensures, c .before .within-word3 .ensures, c .within-word4 .ensures)
+    let two = c .before .before in
+    rw (two .before .within-word .ensures, two .within-word2 .ensures, c .before .within-word3 .ensures, c .within-word4 .ensures)
     (all-four (λ k j. not (has (getD (s .args .t1) k 0) j) || has (getD (s .args .t2) k 0) j))
 
 pub all-marked-spec : {M : Type 1} → statement M

@@ -14,11 +14,12 @@ use Rattle.shapes.proofs.arrays.put.Statement.{statement}
 use Rattle.shapes.proofs.arrays.put.Tie as tie
 
 abbrev Inv-loop : tie.InvT-loop
-Inv-loop file at index turned all through out₀ from items count n₀ i₀ out n i =
-    (i ≤ count) × (count ≤ 9) × (length items ≡ 9) × Put index (decoded file) (picked (decoded file) turned all through (take i items)) from out₀ out n
+Inv-loop file index turned all after out₀ from items count n₀ i₀ out n i =
+    (i ≤ count) × (count ≤ 9) × (length items ≡ 9)
+    × Put index (decoded file) (picked (decoded file) turned all after (take i items)) from out₀ out n
 
 abbrev μ-loop : tie.MeasureT-loop
-μ-loop file at index turned all through out₀ from items count n₀ i₀ out n i = count - i
+μ-loop file index turned all after out₀ from items count n₀ i₀ out n i = count - i
 
 loop-holds : tie.Need-loop-holds Inv-loop μ-loop
 unfolding picked keep
@@ -33,7 +34,8 @@ put-entry-requires c κs =
 loop-again : tie.Need-loop-again Inv-loop μ-loop
 loop-again c =
     let v = c .before .before .before .before .before .loop .inv in
-    (omega arith, v .1, v .2, put-next _ _ _ _ _ _ _ _ _ (v .1) (v .2) _ _ _ (v .3) (c .before .before .before .before .loop-test .taken) _ _ (c .before .before .put-entry .ensures))
+    let more = c .before .before .before .before .loop-test .taken in
+    (omega arith, v .1, v .2, put-next _ _ _ _ _ _ _ _ _ (v .1) (v .2) _ _ _ (v .3) more _ _ (c .before .before .put-entry .ensures))
 
 same-length : tie.Need-same-length Inv-loop μ-loop
 same-length c = c .before .loop .inv .3 .kept

@@ -3,7 +3,7 @@
 use mathlib.Core.Path.{ap₂, _∙_}
 use mathlib.Core.Bool.{_&&_}
 use borrow.Author.Needs.{needs}
-use Rattle.shapes.specs.Decided.{sidesIn, literalsOf}
+use Rattle.shapes.specs.Summary.{sidesIn, literalsOf}
 use Rattle.shapes.proofs.RuleLaws.{literals-in, basics-in}
 use Rattle.shapes.proofs.parts.literals.Statement.{statement}
 use Rattle.shapes.proofs.parts.literals.Tie as tie

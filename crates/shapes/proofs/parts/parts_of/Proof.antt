@@ -17,4 +17,6 @@ returns-3 c =
     parted-bracket _ _ _ _ _ (s .0) (s .1) (c .before .before .if1 .left) (c .before .if2 .left) (c .bracket .ensures)
 
 pub parts-of-spec : {M : Type 1} → statement M
-parts-of-spec = tie.close (tie.spec (λ c κs. search needs) returns (λ c κs. search needs) returns-2 (λ c. search needs) (λ c κs. search needs) returns-3)
+parts-of-spec =
+    tie.close
+    (tie.spec (λ c κs. search needs) returns (λ c κs. search needs) returns-2 (λ c. search needs) (λ c κs. search needs) returns-3)

@@ -8,7 +8,8 @@ use Rattle.shapes.proofs.parts.plain.Tie as tie
 
 returns : tie.Need-returns
 returns c =
-    plain-parts _ _ _ _ (c .before .before .before .before .tree .ensures) (c .none .ensures) (c .before .before .before .tree2 .ensures) refl
+    let right = c .before .before .before in
+    plain-parts _ _ _ _ (right .before .tree .ensures) (c .none .ensures) (right .tree2 .ensures) refl
 
 pub plain-spec : {M : Type 1} → statement M
 plain-spec = tie.close (tie.spec (λ c κs. search needs) (λ c κs. search needs) (λ c κs. search needs) returns)

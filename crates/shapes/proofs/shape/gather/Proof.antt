@@ -21,15 +21,18 @@ returns c =
     let d = c .before .before .before in
     let l = d .before .before .before .before in
     let s = l .before .before .before .before in
+    let part = l .before .before .parts-of .ensures in
+    let ok = l .before .if1 .taken in
     let t = sym (l .literals .ensures) ∙ d .before .before .before .if2 .taken in (
-      shape-right _ _ _ _ _ _ (l .before .before .parts-of .ensures) (l .before .if1 .taken) t _ _ _ _ _ (d .fill .ensures) (s .pre .1 .1) _ (c .decide .ensures),
-      gathered-right _ _ _ _ _ _ (l .before .before .parts-of .ensures) (l .before .if1 .taken) t _ _ _ _ _ (d .fill .ensures) (s .pre .1 .1) _ (c .decide .ensures),
+      shape-right _ _ _ _ _ _ part ok t _ _ _ _ _ (d .fill .ensures) (s .pre .1 .1) _ (c .summary .ensures),
+      gathered-right _ _ _ _ _ _ part ok t _ _ _ _ _ (d .fill .ensures) (s .pre .1 .1) _ (c .summary .ensures),
     )
 
 returns-2 : tie.Need-returns-2
 returns-2 c =
-    let l = c .before .before in (
-      c .refused .ensures ∙ not-literals _ _ _ _ _ (l .before .before .parts-of .ensures) (l .before .if1 .taken) (sym (l .literals .ensures) ∙ c .before .if2 .left),
+    let l = c .before .before in
+    let t = sym (l .literals .ensures) ∙ c .before .if2 .left in (
+      c .refused .ensures ∙ not-literals _ _ _ _ _ (l .before .before .parts-of .ensures) (l .before .if1 .taken) t,
       λ e. absurd (clash _ (holds e) (c .refused .ensures)),
     )
 

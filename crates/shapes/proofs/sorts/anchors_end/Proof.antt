@@ -1,7 +1,7 @@
 -- `sorts::anchors_end` meets its contract.
 -- Assumes nothing.
 use mathlib.Core.Path.{sym}
-use Rattle.shapes.proofs.DecideLaws.{to-inside, to-outside}
+use Rattle.shapes.proofs.SummaryLaws.{to-inside, to-outside}
 use Rattle.shapes.proofs.sorts.anchors_end.Statement.{statement}
 use Rattle.shapes.proofs.sorts.anchors_end.Tie as tie
 

@@ -1,7 +1,7 @@
 -- `sorts::find_anchor` meets its contract.
 -- Assumes nothing.
 use borrow.Author.Needs.{needs}
-use Rattle.shapes.proofs.DecideLaws.{from-inside, to-inside, from-outside, to-outside}
+use Rattle.shapes.proofs.SummaryLaws.{from-inside, to-inside, from-outside, to-outside}
 use Rattle.shapes.proofs.sorts.find_anchor.Statement.{statement}
 use Rattle.shapes.proofs.sorts.find_anchor.Tie as tie
 

@@ -1,7 +1,7 @@
 -- `sorts::flags_in` meets its contract.
 -- Assumes nothing.
 use borrow.Author.Needs.{needs}
-use Rattle.shapes.specs.Decided.{flagsIn}
+use Rattle.shapes.specs.Summary.{flagsIn}
 use Rattle.shapes.proofs.sorts.flags_in.Statement.{statement}
 use Rattle.shapes.proofs.sorts.flags_in.Tie as tie
 

@@ -1,8 +1,8 @@
 -- `sorts::permits` meets its contract.
 -- Assumes nothing.
 use mathlib.Core.Path.{sym}
-use Rattle.shapes.specs.Decided.{clausesBy, statesBy, pairBy}
-use Rattle.shapes.proofs.DecideLaws.{permits-pair, permits-sorts}
+use Rattle.shapes.specs.Summary.{clausesBy, statesBy, pairBy}
+use Rattle.shapes.proofs.SummaryLaws.{permits-pair, permits-sorts}
 use Rattle.shapes.proofs.sorts.permits.Statement.{statement}
 use Rattle.shapes.proofs.sorts.permits.Tie as tie
 
