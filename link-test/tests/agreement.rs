@@ -113,3 +113,22 @@ fn samples() {
         }
     }
 }
+
+/// The sample with more states than one set may hold: as it is, with one byte changed here and there, and asked about states near
+/// the ends of its sets.
+#[test]
+fn two_sets() {
+    let mut file = sample("two_sets");
+    assert_eq!(same_reply(&file, "two_sets"), 0);
+    for entry in 3..6 {
+        for state in [0, 1, 2046, 2047, 2048, 2049, 4095, 4096, 4097, 16_383, 16_384] {
+            same_answer(&file, entry, state, "two_sets");
+        }
+    }
+    for at in (0..file.len()).step_by(23) {
+        let byte = file[at];
+        file[at] = byte ^ 1;
+        same_reply(&file, "two_sets");
+        file[at] = byte;
+    }
+}

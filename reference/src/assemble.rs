@@ -1,6 +1,8 @@
 //! Reads the text form to a draft. Entries, actions and steps must be numbered in turn;
 //! apart from that any value that fits its field is taken, lawful or not.
 
+use std::ops::RangeInclusive;
+
 use crate::draft::{Draft, DraftActions, DraftSet};
 use crate::file::{Clause, Step};
 use crate::rules;
@@ -44,6 +46,20 @@ fn tokens(line: &str) -> Vec<String> {
         }
     }
     words
+}
+
+/// A number, decimal or hexadecimal.
+fn value(word: &str) -> Option<u64> {
+    match word.strip_prefix("0x") {
+        Some(digits) => u64::from_str_radix(digits, 16).ok(),
+        None => word.parse().ok(),
+    }
+}
+
+/// The numbers from the first to the last, of which an entry's length allows 8,191.
+fn range(first: &str, last: &str) -> Option<RangeInclusive<u64>> {
+    let (first, last) = (value(first)?, value(last)?);
+    last.checked_sub(first).is_some_and(|more| more < 8191).then_some(first..=last)
 }
 
 type Parsed<T> = Result<T, String>;
@@ -103,14 +119,10 @@ impl<'a> Line<'a> {
         }
     }
 
-    /// A number that fits its field, decimal or hexadecimal.
+    /// A number that fits its field.
     fn number<T: TryFrom<u64>>(&mut self, what: &str) -> Parsed<T> {
         let word = self.word()?;
-        let value = match word.strip_prefix("0x") {
-            Some(digits) => u64::from_str_radix(digits, 16),
-            None => word.parse(),
-        };
-        let fitting = value.ok().and_then(|value| T::try_from(value).ok());
+        let fitting = value(word).and_then(|value| T::try_from(value).ok());
         fitting.ok_or(format!("'{word}' is no {what}"))
     }
 
@@ -163,6 +175,21 @@ impl<'a> Line<'a> {
         Ok(list)
     }
 
+    /// States up to the end of the line: numbers, and ranges `A..B` to which both ends belong.
+    fn states(&mut self) -> Parsed<Vec<u64>> {
+        let mut list = Vec::new();
+        while let Some(word) = self.peek() {
+            match word.split_once("..") {
+                None => list.push(self.number("state")?),
+                Some((first, last)) => {
+                    self.at += 1;
+                    list.extend(range(first, last).ok_or(format!("'{word}' is no range of states"))?);
+                }
+            }
+        }
+        Ok(list)
+    }
+
     fn action_set(&mut self) -> Parsed<DraftActions> {
         match self.word()? {
             "all" => Ok(DraftActions::All),
@@ -181,7 +208,7 @@ impl<'a> Line<'a> {
             "empty" => Ok(DraftSet::Empty),
             "init" => Ok(DraftSet::Init),
             "goal" => Ok(DraftSet::Goal),
-            "explicit" => Ok(DraftSet::Explicit(self.numbers("state")?)),
+            "explicit" => Ok(DraftSet::Explicit(self.states()?)),
             "horn" => Ok(DraftSet::Horn(self.clauses()?)),
             "twocnf" => Ok(DraftSet::TwoCnf(self.clauses()?)),
             "=" => self.compound(),

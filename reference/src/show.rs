@@ -80,7 +80,7 @@ fn state_set(set: &DraftSet) -> String {
         DraftSet::Empty => "empty".into(),
         DraftSet::Init => "init".into(),
         DraftSet::Goal => "goal".into(),
-        DraftSet::Explicit(states) => listed("explicit", states.iter().map(|s| state(*s))),
+        DraftSet::Explicit(states) => listed("explicit", runs(states)),
         DraftSet::Horn(clauses) => listed("horn", clauses.iter().map(clause)),
         DraftSet::TwoCnf(clauses) => listed("twocnf", clauses.iter().map(clause)),
         DraftSet::Complement(s) => format!("= ~ {s}"),
@@ -98,6 +98,15 @@ fn state(state: u64) -> String {
     } else {
         format!("{state:#x}")
     }
+}
+
+/// The states in turn, four or more that follow each other as a range.
+fn runs(states: &[u64]) -> impl Iterator<Item = String> + '_ {
+    let follows = |a: &u64, b: &u64| a.checked_add(1) == Some(*b);
+    states.chunk_by(follows).flat_map(|run| match run {
+        [first, _, .., _, last] => vec![format!("{}..{}", state(*first), state(*last))],
+        _ => run.iter().map(|s| state(*s)).collect(),
+    })
 }
 
 /// A clause as its literals, `(+2 -0 -1)`.

@@ -1,7 +1,9 @@
 //! Files at the limits, files that would blow up a naive checker, and the workloads.
 
+use std::collections::BTreeSet;
 use std::time::{Duration, Instant};
 
+use reference::assemble::parse;
 use reference::draft::{sample, step, Draft, DraftActions, DraftSet};
 use reference::file::Clause;
 use reference::generate::limits::{full_file, many_action_sets, many_state_sets, workload};
@@ -67,6 +69,28 @@ fn bodies_at_and_over_their_limits() {
     };
     let place = 24 + 256 * 24 + 2 + 3;
     assert_eq!((listed(256), listed(257)), ("accepted".into(), format!("refused 4 {place}")));
+}
+
+/// The sample `two_sets`: the states within reach are too many for one explicit set, and two hold them.
+#[test]
+fn more_states_than_one_set_holds() {
+    let two = parse(include_str!("../../samples/two_sets.txt")).expect("a text");
+    let (mut reached, mut open) = (BTreeSet::from([two.init]), vec![two.init]);
+    while let Some(s) = open.pop() {
+        let after = two.actions.iter().filter(|a| a.applies(s)).map(|a| a.after(s));
+        open.extend(after.filter(|t| reached.insert(*t)));
+    }
+    assert!(reached.iter().copied().eq(0..=4096));
+    assert_eq!(reply(&two), "accepted");
+    // The sample's certificate for the same table, its explicit set the states up to one.
+    let one = |last: u64| {
+        let states = DraftSet::Explicit((0..=last).collect());
+        let mut d = Draft { action_sets: sample().action_sets, steps: sample().steps, ..two.clone() };
+        d.state_sets = sample().state_sets;
+        d.state_sets[3] = states;
+        reply(&d)
+    };
+    assert_eq!((one(4095), one(4096)), ("refused 11 5".into(), "refused 4 376".into()));
 }
 
 #[test]

@@ -101,6 +101,9 @@ fn faulty_texts_are_refused_with_their_line() {
         ("set 1 empty", "line 1: number 0 is next, not 1"),
         ("set 0 = 1 + 2 3", "line 1: '3' is too much"),
         ("set 0 = 1 [ 2", "line 1: the line ends too early"),
+        ("set 0 explicit 1..", "line 1: '1..' is no range of states"),
+        ("set 0 explicit 0 7..5", "line 1: '7..5' is no range of states"),
+        ("set 0 explicit 0..8191", "line 1: '0..8191' is no range of states"),
         ("set 0 horn (+64)", "line 1: '64' is no fact below 64"),
         ("set 0 horn (2)", "line 1: '2' is no literal"),
         ("goal {0 1", "line 1: the line ends too early"),
@@ -124,6 +127,17 @@ fn drafts_come_back_from_their_text() {
     draft.state_sets[5] = DraftSet::Union(900, 5);
     draft.steps[0].premises = [7, 8, 9];
     assert_eq!(assemble(&text(&draft)), Ok(draft.encode()));
+}
+
+/// Four states or more that follow each other are written as a range.
+#[test]
+fn ranges_of_states() {
+    let mut draft = sample();
+    draft.state_sets[3] = DraftSet::Explicit(vec![0, 1, 2, 4, 5, 6, 7, 1022, 1023, 1024, 1025, u64::MAX]);
+    let written = text(&draft);
+    assert!(written.contains("\nset 3 explicit 0 1 2 4..7 1022..0x401 0xffffffffffffffff\n"), "{written}");
+    assert_eq!(assemble(&written), Ok(draft.encode()));
+    assert_eq!(assemble("set 0 explicit 0x10..17 9..9"), assemble("set 0 explicit 16 17 9"));
 }
 
 #[test]

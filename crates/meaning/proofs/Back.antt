@@ -33,7 +33,8 @@ module _ (bytes : List ℕ) where
 
   pub byte-field : (x p : ℕ) (rest : List ℕ) → At bytes p (x ∷ rest) → field bytes 1 p ≡ found x
   unfolding field
-  byte-field x p rest w = bind-in _ (need-in _ 3 p (inside-here bytes p (x ∷ []) rest w 1 (omega arith))) (ap found (byte-back bytes p x rest w))
+  byte-field x p rest w = bind-in _ (need-in _ 3 p (inside-here bytes p (x ∷ []) rest w 1 (omega arith)))
+      (ap found (byte-back bytes p x rest w))
 
   pub count-back : (low high : ℕ) → high < 65536 → Back bytes (λ c. (low ≤ c) × (c ≤ high)) (bytesOf 2) (count bytes low high)
   unfolding count
@@ -43,8 +44,10 @@ module _ (bytes : List ℕ) where
       (bind-in _ (need-in _ 4 p (and-in (leb low c) (leb c high) (le→leb low c (h .0)) (le→leb c high (h .1)))) refl)
 
   -- a number of k bytes that must be below a bound
-  bounded-back : (k bound r : ℕ) → bound ≤ 256 ^ k → Back bytes (λ x. x < bound) (bytesOf k) (λ p. field bytes k p >>= λ x. need (ltb x bound) r p >>= λ _. found x)
-  bounded-back k bound r b x h p rest w = bind-in _ (field-back k x (le-trans h b) p rest w) (bind-in _ (need-in _ r p (lt→ltb x bound h)) refl)
+  bounded-back : (k bound r : ℕ) → bound ≤ 256 ^ k → Back bytes (λ x. x < bound) (bytesOf k)
+      (λ p. field bytes k p >>= λ x. need (ltb x bound) r p >>= λ _. found x)
+  bounded-back k bound r b x h p rest w = bind-in _ (field-back k x (le-trans h b) p rest w)
+      (bind-in _ (need-in _ r p (lt→ltb x bound h)) refl)
 
   pub mask-back : (n : ℕ) → n ≤ 64 → Back bytes (λ m. m < 2 ^ n) (bytesOf 8) (mask bytes n)
   unfolding mask
@@ -92,12 +95,14 @@ module _ {A : Type 0} (P : A → Type 0) (write : A → List ℕ) (size : ℕ) (
     items-back (x ∷ xs) i h p rest w =
         let w₀ : At bytes p (write x ++ (each write xs ++ rest)) = simp append-assoc at w in
         bind-in _ (back x (h .0) p _ w₀)
-        (bind-in _ (items-back xs (suc i) (h .1) (p + size) rest (at-next bytes p (write x) _ w₀ (p + size) (ap (λ (k : ℕ). p + k) (sized x (h .0))))) refl)
+        (bind-in _ (items-back xs (suc i) (h .1) (p + size) rest
+        (at-next bytes p (write x) _ w₀ (p + size) (ap (λ (k : ℕ). p + k) (sized x (h .0))))) refl)
 
 -- the same in ascending order
 module _ (P : ℕ → Type 0) (write : ℕ → List ℕ) (size : ℕ) (sized : (x : ℕ) → P x → length (write x) ≡ size)
     (bytes : List ℕ) (read : ℕ → Result ℕ) (back : Back bytes P write read) where
-  pub ascending-back : (xs : List ℕ) (i low : ℕ) → AllFrom (λ _. P) i xs → Ascending low xs → (p : ℕ) (rest : List ℕ) → At bytes p (each write xs ++ rest)
+  pub ascending-back : (xs : List ℕ) (i low : ℕ) → AllFrom (λ _. P) i xs → Ascending low xs → (p : ℕ) (rest : List ℕ)
+      → At bytes p (each write xs ++ rest)
       → ascending read size low p (length xs) ≡ found xs
   unfolding ascending each
   ascending-back [] i low h a p rest w = refl
@@ -105,12 +110,14 @@ module _ (P : ℕ → Type 0) (write : ℕ → List ℕ) (size : ℕ) (sized : (
       let w₀ : At bytes p (write x ++ (each write xs ++ rest)) = simp append-assoc at w in
       bind-in _ (back x (h .0) p _ w₀)
       (bind-in _ (need-in (leb low x) 7 p (le→leb low x (a .0)))
-      (bind-in _ (ascending-back xs (suc i) (suc x) (h .1) (a .1) (p + size) rest (at-next bytes p (write x) _ w₀ (p + size) (ap (λ (k : ℕ). p + k) (sized x (h .0))))) refl))
+      (bind-in _ (ascending-back xs (suc i) (suc x) (h .1) (a .1) (p + size) rest
+      (at-next bytes p (write x) _ w₀ (p + size) (ap (λ (k : ℕ). p + k) (sized x (h .0))))) refl))
 
 -- ---- steps
 
 module _ (bytes : List ℕ) where
-  premises-back : (ps : List ℕ) → length ps ≡ 3 → All (λ r. r < 65536) ps → (p q s : ℕ) → p + 2 ≡ q → q + 2 ≡ s → (rest : List ℕ) → At bytes p (each (bytesOf 2) ps ++ rest)
+  premises-back : (ps : List ℕ) → length ps ≡ 3 → All (λ r. r < 65536) ps → (p q s : ℕ) → p + 2 ≡ q → q + 2 ≡ s → (rest : List ℕ)
+      → At bytes p (each (bytesOf 2) ps ++ rest)
       → number 2 bytes p ∷ number 2 bytes q ∷ number 2 bytes s ∷ [] ≡ ps
   unfolding each
   premises-back [] e h p q s d d′ rest w = absurd (omega arith)
@@ -136,7 +143,8 @@ length-step s h =
 pub step-back : (bytes : List ℕ) → Back bytes FitsStep writeStep (step bytes)
 unfolding step writeStep
 step-back bytes s h p rest w =
-    let w₀ : At bytes p (s .rule ∷ s .kind ∷ (bytesOf 2 (s .left) ++ (bytesOf 2 (s .right) ++ (each (bytesOf 2) (s .premises) ++ rest)))) = simp append-assoc at w in
+    let w₀ : At bytes p (s .rule ∷ s .kind ∷ (bytesOf 2 (s .left) ++ (bytesOf 2 (s .right) ++ (each (bytesOf 2) (s .premises) ++ rest)))) =
+    simp append-assoc at w in
     let w₁ = after-byte bytes p (s .rule) _ w₀ (p + 1) refl in
     let w₂ = after-byte bytes (p + 1) (s .kind) _ w₁ (p + 2) (omega arith) in
     let w₄ = after-number bytes (p + 2) 2 (s .left) _ w₂ (p + 4) (omega arith) in

@@ -12,9 +12,12 @@ use lib.Dec.{T, eqb, leb, le→leb}
 use Rattle.meaning.specs.declared.Clause.{Clause}
 use Rattle.meaning.specs.Result.{Result, found, _>>=_}
 use Rattle.meaning.specs.Bytes.{bytesOf, number}
-use Rattle.meaning.specs.File.{ActionSet, all, listed, either, Basic, empty, init, goal, explicit, horn, twoCnf, StateSet, basic, complement, intersection, union, progression, regression, actionKind, basicKind, stateKind}
-use Rattle.meaning.specs.Layout.{items, ascending, mask, reference, clause, Kind, upTo, plain, one, two, clauses, actionKinds, stateKinds, hornRule, twoCnfRule, entry, entries}
-use Rattle.meaning.specs.Writing.{each, writeClause, writeEntry, writeActionSet, writeStateSet, actionBody, basicBody, stateBody, AllFrom, All, Ascending, FitsActionSet, FitsClauses, FitsBasic, FitsStateSet}
+use Rattle.meaning.specs.File.{ActionSet, all, listed, either, Basic, empty, init, goal, explicit, horn, twoCnf, StateSet, basic}
+use Rattle.meaning.specs.File.{complement, intersection, union, progression, regression, actionKind, basicKind, stateKind}
+use Rattle.meaning.specs.Layout.{items, ascending, mask, reference, clause, Kind, upTo, plain, one, two, clauses, actionKinds}
+use Rattle.meaning.specs.Layout.{stateKinds, hornRule, twoCnfRule, entry, entries}
+use Rattle.meaning.specs.Writing.{each, writeClause, writeEntry, writeActionSet, writeStateSet, actionBody, basicBody, stateBody}
+use Rattle.meaning.specs.Writing.{AllFrom, All, Ascending, FitsActionSet, FitsClauses, FitsBasic, FitsStateSet}
 use Rattle.meaning.proofs.Results.{bind-in, need-in, known-in, and-in}
 use Rattle.meaning.proofs.Numbers.{length-bytesOf}
 use Rattle.meaning.proofs.Given.{FitsClause}
@@ -35,7 +38,8 @@ record Holds {A : Type 0} (bytes : List ℕ) (kinds : List (Kind A)) (j : ℕ) (
   fits : T (kind .fits (length body))
   reads : (p : ℕ) (rest : List ℕ) → At bytes p (body ++ rest) → kind .body p (length body) ≡ found x
 
-module _ {A : Type 0} (bytes : List ℕ) (kinds : List (Kind A)) (j : ℕ) (body : List ℕ) (x : A) (h : Holds bytes kinds j body x) (p : ℕ) (rest : List ℕ)
+module _ {A : Type 0} (bytes : List ℕ) (kinds : List (Kind A)) (j : ℕ) (body : List ℕ) (x : A) (h : Holds bytes kinds j body x) (p : ℕ)
+    (rest : List ℕ)
     (w : At bytes p (writeEntry j body ++ rest)) where
   entry-at : At bytes p (bytesOf 2 (suc (length body)) ++ (j ∷ body ++ rest))
   unfolding writeEntry
@@ -66,7 +70,8 @@ module _ {A : Type 0} (bytes : List ℕ) (P : ℕ → A → Type 0) (kindOf : A 
   abbrev write : A → List ℕ
   write x = writeEntry (kindOf x) (bodyOf x)
 
-  entries-back : (xs : List A) (i : ℕ) → i + length xs ≤ bound → AllFrom P i xs → (p : ℕ) (rest : List ℕ) → At bytes p (each write xs ++ rest)
+  entries-back : (xs : List A) (i : ℕ) → i + length xs ≤ bound → AllFrom P i xs → (p : ℕ) (rest : List ℕ)
+      → At bytes p (each write xs ++ rest)
       → entries bytes kinds i p (length xs) ≡ found (xs, p + length (each write xs))
   unfolding entries each
   entries-back [] i l h p rest w = ap (λ (q : ℕ). found ([], q)) (omega arith)
@@ -75,10 +80,12 @@ module _ {A : Type 0} (bytes : List ℕ) (P : ℕ → A → Type 0) (kindOf : A 
       let g : Holds bytes (kinds i) (kindOf x) (bodyOf x) x = holds i x (omega arith) (h .0) in
       let n : length (write x) ≡ 2 + suc (length (bodyOf x)) = length-entry (kindOf x) (bodyOf x) in
       let q : ℕ = p + length (write x) in
-      let m : p + 2 + number 2 bytes p ≡ q = ap (λ (k : ℕ). p + 2 + k) (entry-length bytes (kinds i) (kindOf x) (bodyOf x) x g p _ w₀) ∙ omega arith in
+      let m : p + 2 + number 2 bytes p ≡ q = ap (λ (k : ℕ). p + 2 + k) (entry-length bytes (kinds i) (kindOf x) (bodyOf x) x g p _ w₀)
+      ∙ omega arith in
       let a = length-append (write x) (each write xs) in
       bind-in _ (entry-back bytes (kinds i) (kindOf x) (bodyOf x) x g p _ w₀)
-      (bind-in _ (ap (λ (k : ℕ). entries bytes kinds (suc i) k (length xs)) m ∙ entries-back xs (suc i) (omega arith) (h .1) q rest (at-next bytes p (write x) _ w₀ q refl))
+      (bind-in _ (ap (λ (k : ℕ). entries bytes kinds (suc i) k (length xs)) m
+      ∙ entries-back xs (suc i) (omega arith) (h .1) q rest (at-next bytes p (write x) _ w₀ q refl))
       (ap (λ (k : ℕ). found (x ∷ xs, k)) (omega arith)))
 
 -- ---- each kind
@@ -119,7 +126,8 @@ module _ {A : Type 0} (bytes : List ℕ) {kinds : List (Kind A)} {j : ℕ} where
 
   -- a body that is a number of items of one size
   list-holds : {B : Type 0} (write : B → List ℕ) (size most : ℕ) → 0 < size → suc (size * most) < 65536
-      → (read : ℕ → ℕ → Result (List B)) (make : List B → A) → getElem? kinds j ≡ some (record { fits = upTo size most; body = λ p len. read p (len / size) >>= λ xs. found (make xs) })
+      → (read : ℕ → ℕ → Result (List B)) (make : List B → A)
+      → getElem? kinds j ≡ some (record { fits = upTo size most; body = λ p len. read p (len / size) >>= λ xs. found (make xs) })
       → (xs : List B) → length xs ≤ most → length (each write xs) ≡ size * length xs
       → ((p : ℕ) (rest : List ℕ) → At bytes p (each write xs ++ rest) → read p (length xs) ≡ found xs)
       → Holds bytes kinds j (each write xs) (make xs)
@@ -139,9 +147,12 @@ module _ {A : Type 0} (bytes : List ℕ) {kinds : List (Kind A)} {j : ℕ} where
       }
 
   -- ascending numbers of `size` bytes each, below a bound
-  ascending-holds : (size most bound : ℕ) → 0 < size → suc (size * most) < 65536 → (read : ℕ → Result ℕ) → Back bytes (λ a. a < bound) (bytesOf size) read
-      → (make : List ℕ → A) → getElem? kinds j ≡ some (record { fits = upTo size most; body = λ p len. ascending read size 0 p (len / size) >>= λ xs. found (make xs) })
-      → (xs : List ℕ) → (length xs ≤ most) × Ascending 0 xs × All (λ a. a < bound) xs → Holds bytes kinds j (each (bytesOf size) xs) (make xs)
+  ascending-holds : (size most bound : ℕ) → 0 < size → suc (size * most) < 65536 → (read : ℕ → Result ℕ)
+      → Back bytes (λ a. a < bound) (bytesOf size) read
+      → (make : List ℕ → A) → getElem? kinds j ≡ some
+      (record { fits = upTo size most; body = λ p len. ascending read size 0 p (len / size) >>= λ xs. found (make xs) })
+      → (xs : List ℕ) → (length xs ≤ most) × Ascending 0 xs × All (λ a. a < bound) xs
+      → Holds bytes kinds j (each (bytesOf size) xs) (make xs)
   ascending-holds size most bound some-size small read back make e xs h =
       list-holds (bytesOf size) size most some-size small (λ p k. ascending read size 0 p k) make e xs (h .0)
       (length-each (λ a. a < bound) (bytesOf size) size (λ a _. length-bytesOf size a) xs 0 (h .2))
@@ -151,13 +162,17 @@ length-clause : (c : Clause) → length (writeClause c) ≡ 16
 unfolding writeClause
 length-clause c = simp (length-append, length-bytesOf)
 
-clauses-hold : (bytes : List ℕ) {kinds : List (Kind StateSet)} {j : ℕ} (n : ℕ) → n ≤ 64 → (rule : ℕ → ℕ → Bool) (make : List Clause → Basic)
-    → getElem? kinds j ≡ some (clauses bytes n rule make) → (cs : List Clause) → FitsClauses n rule cs → Holds bytes kinds j (each writeClause cs) (basic (make cs))
+clauses-hold : (bytes : List ℕ) {kinds : List (Kind StateSet)} {j : ℕ} (n : ℕ) → n ≤ 64
+    → (rule : ℕ → ℕ → Bool) (make : List Clause → Basic)
+    → getElem? kinds j ≡ some (clauses bytes n rule make) → (cs : List Clause) → FitsClauses n rule cs
+    → Holds bytes kinds j (each writeClause cs) (basic (make cs))
 unfolding clauses
 clauses-hold bytes n b rule make e cs h =
-    list-holds bytes writeClause 16 256 (omega arith) (omega arith) (λ p k. items (clause bytes n rule) 16 p k) (λ ds. basic (make ds)) e cs (h .0)
+    list-holds bytes writeClause 16 256 (omega arith) (omega arith) (λ p k. items (clause bytes n rule) 16 p k)
+    (λ ds. basic (make ds)) e cs (h .0)
     (length-each (FitsClause n rule) writeClause 16 (λ c _. length-clause c) cs 0 (h .1))
-    (items-back (FitsClause n rule) writeClause 16 (λ c _. length-clause c) bytes (clause bytes n rule) (clause-back bytes n rule b) cs 0 (h .1))
+    (items-back (FitsClause n rule) writeClause 16 (λ c _. length-clause c) bytes (clause bytes n rule) (clause-back bytes n rule b) cs 0
+    (h .1))
 
 -- ---- every entry that fits
 
@@ -170,13 +185,15 @@ module _ (bytes : List ℕ) where
       ascending-holds bytes 2 256 m (omega arith) (omega arith) (reference bytes m) (reference-back bytes m b) listed refl is h
   action-holds m b i (either a c) l h = two-holds bytes either i i a c (omega arith) (omega arith) h refl
 
-  basic-holds : (n m i : ℕ) → n ≤ 64 → (x : Basic) → FitsBasic n x → Holds bytes (stateKinds bytes n m i) (basicKind x) (basicBody x) (basic x)
+  basic-holds : (n m i : ℕ) → n ≤ 64 → (x : Basic) → FitsBasic n x
+      → Holds bytes (stateKinds bytes n m i) (basicKind x) (basicBody x) (basic x)
   unfolding stateKinds basicKind basicBody
   basic-holds n m i b empty h = plain-holds bytes refl
   basic-holds n m i b init h = plain-holds bytes refl
   basic-holds n m i b goal h = plain-holds bytes refl
   basic-holds n m i b (explicit ss) h =
-      ascending-holds bytes 8 4096 (2 ^ n) (omega arith) (omega arith) (mask bytes n) (mask-back bytes n b) (λ xs. basic (explicit xs)) refl ss h
+      ascending-holds bytes 8 4096 (2 ^ n) (omega arith) (omega arith) (mask bytes n) (mask-back bytes n b)
+      (λ xs. basic (explicit xs)) refl ss h
   basic-holds n m i b (horn cs) h = clauses-hold bytes n b hornRule horn refl cs h
   basic-holds n m i b (twoCnf cs) h = clauses-hold bytes n b twoCnfRule twoCnf refl cs h
 
@@ -195,11 +212,13 @@ module _ (bytes : List ℕ) where
       → entries bytes (actionKinds bytes m) 0 p (length es) ≡ found (es, p + length (each writeActionSet es))
   unfolding writeActionSet
   action-sets-back m b es few h p rest w =
-      entries-back bytes (FitsActionSet m) actionKind actionBody (actionKinds bytes m) 65536 (action-holds m (omega arith)) es 0 (omega arith) h p rest w
+      entries-back bytes (FitsActionSet m) actionKind actionBody (actionKinds bytes m) 65536 (action-holds m (omega arith)) es 0
+      (omega arith) h p rest w
 
   pub state-sets-back : (n m : ℕ) → n ≤ 64 → m ≤ 256 → (ss : List StateSet) → length ss ≤ 512 → AllFrom (FitsStateSet n m) 0 ss
       → (p : ℕ) (rest : List ℕ) → At bytes p (each writeStateSet ss ++ rest)
       → entries bytes (stateKinds bytes n m) 0 p (length ss) ≡ found (ss, p + length (each writeStateSet ss))
   unfolding writeStateSet
   state-sets-back n m b b′ ss few h p rest w =
-      entries-back bytes (FitsStateSet n m) stateKind stateBody (stateKinds bytes n m) 65536 (state-holds n m b (omega arith)) ss 0 (omega arith) h p rest w
+      entries-back bytes (FitsStateSet n m) stateKind stateBody (stateKinds bytes n m) 65536 (state-holds n m b (omega arith)) ss 0
+      (omega arith) h p rest w

@@ -18,7 +18,8 @@ use Rattle.meaning.specs.Result.{found, need}
 use Rattle.meaning.specs.Bytes.{bytesOf}
 use Rattle.meaning.specs.File.{File, stepAt}
 use Rattle.meaning.specs.Layout.{readFile}
-use Rattle.meaning.specs.Writing.{AllFrom, Ascending, FitsCertificate, FitsStep, each, writeEntry, actionBody, basicBody, stateBody, writeActionSet, writeStateSet, writeStep, counted, fileOf, writeCertificate, Lawful}
+use Rattle.meaning.specs.Writing.{AllFrom, Ascending, FitsCertificate, FitsStep, each, writeEntry, actionBody, basicBody, stateBody}
+use Rattle.meaning.specs.Writing.{writeActionSet, writeStateSet, writeStep, counted, fileOf, writeCertificate, Lawful}
 use Rattle.meaning.proofs.Results.{bind-in, need-in, found-same}
 use Rattle.meaning.proofs.Reading.{file-read, task-fits, task-end}
 use Rattle.meaning.proofs.Prefix.{lawful-reads}
@@ -94,7 +95,8 @@ module _ (t : Task) (ss : List ℕ) (lists : (s : ℕ) → T (member s ss) ↔ R
       within f 4 5 .1 (λ s x.
       let (u, a, m, c, v) = progression-iff t (λ y. member y ss) (λ i. ltb i (length (t .actions))) s .1 (rw set-4 at x) in
       rw set-5 (or-left (member (s .0) ss) false
-      (lists (s .0) .1 (subst (Reachable t) (applied (actionAt t (a .0)) (u .0) (v .0) ∙ v .1) (reach-next t (u .0) (lists (u .0) .0 m) (a .0) (a .1))))))
+      (lists (s .0) .1 (subst (Reachable t) (applied (actionAt t (a .0)) (u .0) (v .0) ∙ v .1)
+      (reach-next t (u .0) (lists (u .0) .0 m) (a .0) (a .1))))))
 
   -- ---- its steps pass
   pass-1 : checkStep f 1 (stepOf 2 1 4 5 0 0 0) ≡ need (statesWithin f 4 5) 11 1
@@ -122,8 +124,10 @@ module _ (t : Task) (ss : List ℕ) (lists : (s : ℕ) → T (member s ss) ↔ R
   steps-pass =
       let d = derived in
       bind-in _
-      (bind-in _ (d .0) (bind-in _ (pass-1 ∙ need-in (statesWithin f 4 5) 11 1 closed) (bind-in _ (pass-2 ∙ need-in (statesWithin f 6 0) 11 2 no-goal)
-      (bind-in _ (d .1) (bind-in _ (d .2) (bind-in _ (pass-5 ∙ need-in (statesWithin f 1 3) 11 5 init-listed) (bind-in _ (d .3) (bind-in _ (d .4) refl))))))))
+      (bind-in _ (d .0) (bind-in _ (pass-1 ∙ need-in (statesWithin f 4 5) 11 1 closed)
+      (bind-in _ (pass-2 ∙ need-in (statesWithin f 6 0) 11 2 no-goal)
+      (bind-in _ (d .1) (bind-in _ (d .2) (bind-in _ (pass-5 ∙ need-in (statesWithin f 1 3) 11 5 init-listed)
+      (bind-in _ (d .3) (bind-in _ (d .4) refl))))))))
       (d .5)
 
 -- ---- it fits the format

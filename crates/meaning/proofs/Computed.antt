@@ -5,17 +5,32 @@ use Rattle.task.specs.Task.{actionAt, isInit, isGoal, applies, after}
 use Rattle.task.specs.Reach.{member, every}
 use Rattle.meaning.specs.Result.{_>>=_, need, known}
 use Rattle.meaning.specs.Bytes.{bigEndian, number, inside}
-use Rattle.meaning.specs.File.{actionSetAt, stateSetAt, stepAt, actionKind, basicKind, stateKind, first, second, firstAction, secondAction}
-use Rattle.meaning.specs.Layout.{onesIn, hornRule, twoCnfRule, items, ascending, field, count, mask, reference, action, clause, step, upTo, plain, one, two, clauses, actionKinds, stateKinds, entry, entries, readTask, readFile}
-use Rattle.meaning.specs.Sets.{allBelow, someBelow, rounds, settled, actionNode, inActions, meets, inBasic, someAction, progressed, regressed, stateNode, inSet, statesWithin, actionsWithin}
-use Rattle.meaning.specs.Shapes.{keep, theOnly, kindAt, child, leafNode, leaves, isBasic, isComplement, isLiteral, literalKind, complements, others, movedLeft, movedRight, bracket, used, ofLiterals, ofClauses, ofStates, permitted, shape₁, shapeWith, shape₂, shape₃, mixed, shape₄}
+use Rattle.meaning.specs.File.{actionSetAt, stateSetAt, stepAt, actionKind, basicKind, stateKind, first, second, firstAction}
+use Rattle.meaning.specs.File.{secondAction}
+use Rattle.meaning.specs.Layout.{onesIn, hornRule, twoCnfRule, items, ascending, field, count, mask, reference, action, clause, step}
+use Rattle.meaning.specs.Layout.{upTo, plain, one, two, clauses, actionKinds, stateKinds, entry, entries, readTask, readFile}
+use Rattle.meaning.specs.Sets.{allBelow, someBelow, rounds, settled, actionNode, inActions, meets, inBasic, someAction, progressed}
+use Rattle.meaning.specs.Sets.{regressed, stateNode, inSet, statesWithin, actionsWithin}
+use Rattle.meaning.specs.Shapes.{keep, theOnly, kindAt, child, leafNode, leaves, isBasic, isComplement, isLiteral, literalKind}
+use Rattle.meaning.specs.Shapes.{complements, others, movedLeft, movedRight, bracket, used, ofLiterals, ofClauses, ofStates}
+use Rattle.meaning.specs.Shapes.{permitted, shape₁, shapeWith, shape₂, shape₃, mixed, shape₄}
 use Rattle.meaning.specs.Statements.{statements}
 use Rattle.meaning.specs.Rules.{rules, patternKind}
-use Rattle.meaning.specs.Match.{noLetters, _then_, given, withLetter, standsFor, ofKind, ofActionKind, matchᴬ, match, matchEntries, matchStep, matchPremises}
+use Rattle.meaning.specs.Match.{noLetters, _then_, given, withLetter, standsFor, ofKind, ofActionKind, matchᴬ, match, matchEntries}
+use Rattle.meaning.specs.Match.{matchStep, matchPremises}
 use Rattle.meaning.specs.Step.{judgementKind, premiseCount, allRules, ruleAt, entriesFit, wellFormed, checkBy, checkStep}
 use Rattle.meaning.specs.Reply.{checkSteps, checkFile, replyTo, replyOf}
-use Rattle.meaning.specs.Cases.{word, withLength, tableBytes, setBytes, stepBytes, firstSteps, allSteps, explicit012, fileBytes, sample, cases}
+use Rattle.meaning.specs.Cases.{word, withLength, tableBytes, setBytes, stepBytes, firstSteps, allSteps, explicit012, fileBytes}
+use Rattle.meaning.specs.Cases.{sample, cases}
 
 unfoldable pub computed : Unit {0}
-unfolding allOn without actionAt isInit isGoal applies after member every _>>=_ need known bigEndian number inside actionSetAt stateSetAt stepAt actionKind basicKind stateKind first second firstAction secondAction onesIn hornRule twoCnfRule items ascending field count mask reference action clause step upTo plain one two clauses actionKinds stateKinds entry entries readTask readFile allBelow someBelow rounds settled actionNode inActions meets inBasic someAction progressed regressed stateNode inSet statesWithin actionsWithin keep theOnly kindAt child leafNode leaves isBasic isComplement isLiteral literalKind complements others movedLeft movedRight bracket used ofLiterals ofClauses ofStates permitted shape₁ shapeWith shape₂ shape₃ mixed shape₄ statements rules patternKind noLetters _then_ given withLetter standsFor ofKind ofActionKind matchᴬ match matchEntries matchStep matchPremises judgementKind premiseCount allRules ruleAt entriesFit wellFormed checkBy checkStep checkSteps checkFile replyTo replyOf word withLength tableBytes setBytes stepBytes firstSteps allSteps explicit012 fileBytes sample cases
+unfolding allOn without actionAt isInit isGoal applies after member every _>>=_ need known bigEndian number inside actionSetAt
+    stateSetAt stepAt actionKind basicKind stateKind first second firstAction secondAction onesIn hornRule twoCnfRule items ascending
+    field count mask reference action clause step upTo plain one two clauses actionKinds stateKinds entry entries readTask readFile
+    allBelow someBelow rounds settled actionNode inActions meets inBasic someAction progressed regressed stateNode inSet statesWithin
+    actionsWithin keep theOnly kindAt child leafNode leaves isBasic isComplement isLiteral literalKind complements others movedLeft
+    movedRight bracket used ofLiterals ofClauses ofStates permitted shape₁ shapeWith shape₂ shape₃ mixed shape₄ statements rules
+    patternKind noLetters _then_ given withLetter standsFor ofKind ofActionKind matchᴬ match matchEntries matchStep matchPremises
+    judgementKind premiseCount allRules ruleAt entriesFit wellFormed checkBy checkStep checkSteps checkFile replyTo replyOf word
+    withLength tableBytes setBytes stepBytes firstSteps allSteps explicit012 fileBytes sample cases
 computed = tt

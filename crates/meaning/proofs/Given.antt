@@ -11,8 +11,10 @@ use lib.Dec.{T, eqb, ltb, leb, ltb→lt, leb→le}
 use Rattle.meaning.specs.declared.Clause.{Clause}
 use Rattle.meaning.specs.Result.{Result, found, _>>=_, need, known}
 use Rattle.meaning.specs.Bytes.{number, inside}
-use Rattle.meaning.specs.File.{ActionSet, all, listed, either, Basic, empty, init, goal, explicit, horn, twoCnf, StateSet, basic, complement, intersection, union, progression, regression}
-use Rattle.meaning.specs.Layout.{items, ascending, field, count, mask, reference, action, clause, Kind, plain, upTo, one, two, clauses, actionKinds, stateKinds, hornRule, twoCnfRule, entry, entries}
+use Rattle.meaning.specs.File.{ActionSet, all, listed, either, Basic, empty, init, goal, explicit, horn, twoCnf, StateSet, basic}
+use Rattle.meaning.specs.File.{complement, intersection, union, progression, regression}
+use Rattle.meaning.specs.Layout.{items, ascending, field, count, mask, reference, action, clause, Kind, plain, upTo, one, two}
+use Rattle.meaning.specs.Layout.{clauses, actionKinds, stateKinds, hornRule, twoCnfRule, entry, entries}
 use Rattle.meaning.specs.Writing.{AllFrom, All, Ascending, FitsAction, FitsActionSet, FitsClauses, FitsStateSet}
 use Rattle.meaning.proofs.Results.{found-same, bind-case, need-case, known-out, and-out}
 
@@ -23,7 +25,8 @@ Gives {A} P read = (p : ℕ) (x : A) → read p ≡ found x → P x
 -- ---- fields
 
 -- a number of k bytes that must be below a bound
-bounded-gives : (bytes : List ℕ) (k bound r : ℕ) → Gives (λ x. x < bound) (λ p. field bytes k p >>= λ x. need (ltb x bound) r p >>= λ _. found x)
+bounded-gives : (bytes : List ℕ) (k bound r : ℕ) → Gives (λ x. x < bound)
+    (λ p. field bytes k p >>= λ x. need (ltb x bound) r p >>= λ _. found x)
 bounded-gives bytes k bound r p y e =
     bind-case (field bytes k p) _ y e λ x _ e₁.
     need-case (ltb x bound) r p _ y e₁ λ t q.
@@ -111,7 +114,8 @@ give-plain : {A : Type 0} (P : A → Type 0) (a : A) → P a → KindGives P (pl
 unfolding plain
 give-plain P a h p len x t e = subst P (found-same e) h
 
-give-one : {A : Type 0} (bytes : List ℕ) (P : A → Type 0) (make : ℕ → A) (m : ℕ) → ((a : ℕ) → a < m → P (make a)) → KindGives P (one bytes make m)
+give-one : {A : Type 0} (bytes : List ℕ) (P : A → Type 0) (make : ℕ → A) (m : ℕ) → ((a : ℕ) → a < m → P (make a))
+    → KindGives P (one bytes make m)
 unfolding one
 give-one bytes P make m h p len x t e =
     bind-case (reference bytes m p) _ x e λ a a! q.

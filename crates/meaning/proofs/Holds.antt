@@ -22,7 +22,8 @@ use Rattle.meaning.proofs.Sets.{statesOf, actionsOf, within, within-act
 use Rattle.meaning.specs.Rules.{Pattern, dead, _⊑_, _⊑ᴬ_, unsolvable, _⊢_, rules, patternKind}
 use Rattle.meaning.specs.Truth.{Says, SaysAll, SoundRule}
 use Rattle.meaning.specs.Match.{Letters, noLetters, matchEntries, matchStep, matchPremises}
-use Rattle.meaning.specs.Step.{Check, statement, derivation, judgementKind, premiseCount, allRules, ruleAt, entriesFit, wellFormed, checkBy, checkStep}
+use Rattle.meaning.specs.Step.{Check, statement, derivation, judgementKind, premiseCount, allRules, ruleAt, entriesFit, wellFormed}
+use Rattle.meaning.specs.Step.{checkBy, checkStep}
 use Rattle.meaning.proofs.RulesSound.{rules-sound, sound-at}
 use Rattle.meaning.proofs.Letters.{no-some, Told, told-map, told-same, told-given, told-then}
 use Rattle.meaning.proofs.Same.{same-within, same-dead}
@@ -55,7 +56,8 @@ first-third a b c d t =
     let u = and-left (a && b && c) d t in
     (and-left a b (and-left (a && b) c u), and-right (a && b) c u)
 
-mapped-at : {A B : Type 0} (g : A → B) (l : List A) (k : ℕ) (c : B) → getElem? (map g l) k ≡ some c → (r : A) × (getElem? l k ≡ some r) × (g r ≡ c)
+mapped-at : {A B : Type 0} (g : A → B) (l : List A) (k : ℕ) (c : B) → getElem? (map g l) k ≡ some c
+    → (r : A) × (getElem? l k ≡ some r) × (g r ≡ c)
 mapped-at g [] k c e = no-some c e
 mapped-at g (r ∷ l) zero c e = (r, refl, cc)
 mapped-at g (r ∷ l) (suc k) c e = mapped-at g l k c e
@@ -63,7 +65,8 @@ mapped-at g (r ∷ l) (suc k) c e = mapped-at g l k c e
 -- ---- a match: the pattern says what the judgement says
 
 module _ (f : File) (o : Ordered f) (b : Bounded (f .task)) where
-  matched-entries : (p : Pattern) (x y : ℕ) (σ τ : Letters) → matchEntries f p x y σ ≡ some τ → Told (Agrees f p (HoldsAs f (patternKind p) x y)) σ τ
+  matched-entries : (p : Pattern) (x y : ℕ) (σ τ : Letters) → matchEntries f p x y σ ≡ some τ
+      → Told (Agrees f p (HoldsAs f (patternKind p) x y)) σ τ
   unfolding matchEntries patternKind
   matched-entries (dead p) x y σ τ h = told-map (matched f o b p x σ τ h) (λ υ w. same-dead (system (f .task)) w)
   matched-entries (p ⊑ q) x y σ τ h =
@@ -105,10 +108,12 @@ module _ (f : File) where
       states : (x y : ℕ) → T (statesWithin f x y) → HoldsAs f 1 x y
       states x y = within f x y .0
 
-  check-at : (cs : List Statement) → SoundStatements cs → (k : ℕ) (c : Check) → getElem? (map statement cs ++ map derivation rules) k ≡ some c → SoundCheck c
+  check-at : (cs : List Statement) → SoundStatements cs → (k : ℕ) (c : Check)
+      → getElem? (map statement cs ++ map derivation rules) k ≡ some c → SoundCheck c
   check-at [] a k c e =
       let m = mapped-at derivation rules k c e in
-      subst SoundCheck (m .2) (λ υ. sound-at (system (f .task)) (stateLetters f υ) (actionLetters f υ) rules (rules-sound _ _ _) k (m .0) (m .1))
+      subst SoundCheck (m .2) (λ υ. sound-at (system (f .task)) (stateLetters f υ) (actionLetters f υ) rules (rules-sound _ _ _) k (m .0)
+      (m .1))
   check-at (c′ ∷ cs) a zero c e = let q : statement c′ ≡ c = cc in subst SoundCheck q (a .0)
   check-at (c′ ∷ cs) a (suc k) c e = check-at cs (a .1) k c e
 
@@ -123,26 +128,33 @@ module _ (f : File) (o : Ordered f) (b : Bounded (f .task)) (i : ℕ) (earlier :
   all-hold : (ks : List ℕ) → T (every (λ p. ltb p i) ks) → AllHold f ks
   unfolding every
   all-hold [] t = tt
-  all-hold (k ∷ ks) t =
-      (earlier k (ltb→lt k i (and-left (ltb k i) (every (λ p. ltb p i) ks) t)), all-hold ks (and-right (ltb k i) (every (λ p. ltb p i) ks) t))
+  all-hold (k ∷ ks) t = (
+    earlier k (ltb→lt k i (and-left (ltb k i) (every (λ p. ltb p i) ks) t)),
+    all-hold ks
+        (and-right (ltb k i) (every (λ p. ltb p i) ks) t),
+  )
 
   -- a well-formed step has the rule's judgement kind, and its premises hold
   well-formed : (s : Step) (j k : ℕ) → T (wellFormed f i s j k) → (s .kind ≡ j) × AllHold f (take k (s .premises))
   unfolding wellFormed
   well-formed s j k w =
-      let t = first-third (eqb (s .kind) j) (entriesFit f j (s .left) (s .right)) (every (λ p. ltb p i) (take k (s .premises))) (every (λ p. eqb p 0) (drop k (s .premises))) w in
+      let t = first-third (eqb (s .kind) j) (entriesFit f j (s .left) (s .right)) (every (λ p. ltb p i) (take k (s .premises)))
+      (every (λ p. eqb p 0) (drop k (s .premises))) w in
       (eqb→eq (s .kind) j (t .0), all-hold (take k (s .premises)) (t .1))
 
-  checked : (s : Step) (c : Check) → SoundCheck f c → T (wellFormed f i s (judgementKind c) (premiseCount c)) → checkBy f i s c ≡ found tt → Holds f s
+  checked : (s : Step) (c : Check) → SoundCheck f c → T (wellFormed f i s (judgementKind c) (premiseCount c)) → checkBy f i s c ≡ found tt
+      → Holds f s
   unfolding checkBy judgementKind premiseCount
   checked s (statement c) h w e =
       let d = bind-out (need (c .shape (s .left) (s .right)) 10 i) _ tt e in
-      subst (λ (j : ℕ). HoldsAs f j (s .left) (s .right)) (sym (well-formed s (c .kind) 0 w .0)) (h (s .left) (s .right) (need-out _ 11 i tt (d .2)))
+      subst (λ (j : ℕ). HoldsAs f j (s .left) (s .right)) (sym (well-formed s (c .kind) 0 w .0))
+      (h (s .left) (s .right) (need-out _ 11 i tt (d .2)))
   checked s (derivation (ps ⊢ c)) h w e =
       let d = bind-out (known (matchStep f c s noLetters) 9 i) _ tt e in
       let g = bind-out (known (matchPremises f ps (s .premises) (d .0)) 9 i) _ tt (d .2) in
       let m = matched-step f o b c s noLetters (d .0) (known-out (matchStep f c s noLetters) 9 i (d .0) (d .1)) in
-      let n = matched-premises f o b ps (s .premises) (d .0) (g .0) (known-out (matchPremises f ps (s .premises) (d .0)) 9 i (g .0) (g .1)) in
+      let n = matched-premises f o b ps (s .premises) (d .0) (g .0)
+      (known-out (matchPremises f ps (s .premises) (d .0)) 9 i (g .0) (g .1)) in
       m .shows (g .0) (n .keeps) .0 (h (g .0) (n .shows (g .0) (λ x y p. p) (well-formed s (patternKind c) (length ps) w .1)))
 
 -- A step that passes says what is true, where each step before it does.

@@ -8,7 +8,8 @@ use Rattle.task.specs.System.{States, Actions}
 use Rattle.task.proofs.Moves.{Bounded, system}
 use Rattle.meaning.specs.File.{File, actionSetAt, stateSetAt, first, second, firstAction, secondAction}
 use Rattle.meaning.proofs.Order.{Ordered}
-use Rattle.meaning.proofs.Sets.{statesOf, actionsOf, at-empty, at-init, at-goal, at-complement, at-intersection, at-union, at-progression, at-regression, at-all, at-either}
+use Rattle.meaning.proofs.Sets.{statesOf, actionsOf, at-empty, at-init, at-goal, at-complement, at-intersection, at-union}
+use Rattle.meaning.proofs.Sets.{at-progression, at-regression, at-all, at-either}
 use Rattle.meaning.specs.Rules.{ActionPattern, letterᴬ, T, _∪ᴬ_, StatePattern, letter, O, I, G, ∼_, _∩_, _∪_, prog, regr}
 use Rattle.meaning.specs.Truth.{valueᴬ, value}
 use Rattle.meaning.specs.Match.{Letters, ofKind, ofActionKind, matchᴬ, match}

@@ -7,7 +7,9 @@ use mathlib.Core.List.{List, [], _∷_}
 use lib.ListN.{getD, length}
 use lib.Dec.{T, eqb, eqb→eq, ltb}
 use Rattle.task.specs.Task.{isInit, isGoal}
-use Rattle.meaning.specs.File.{ActionSet, all, listed, either, empty, init, goal, explicit, horn, twoCnf, StateSet, basic, complement, intersection, union, progression, regression, File, actionSetAt, stateSetAt, actionKind, stateKind, basicKind, first, second, firstAction, secondAction}
+use Rattle.meaning.specs.File.{ActionSet, all, listed, either, empty, init, goal, explicit, horn, twoCnf, StateSet, basic}
+use Rattle.meaning.specs.File.{complement, intersection, union, progression, regression, File, actionSetAt, stateSetAt, actionKind}
+use Rattle.meaning.specs.File.{stateKind, basicKind, first, second, firstAction, secondAction}
 use Rattle.meaning.proofs.Order.{Earlier, EarlierActions, Ordered}
 use Rattle.meaning.specs.Sets.{actionNode, inActions, progressed, regressed, inBasic, stateNode, inSet}
 use Rattle.meaning.proofs.Settled.{settled-node}
@@ -80,7 +82,8 @@ module _ (f : File) where
   kinds-agree m (progression a b) = refl
   kinds-agree m (regression a b) = refl
 
-  pub node-by-kind : (m : ℕ → ℕ → Bool) (x : StateSet) (k : ℕ) → T (eqb (stateKind x) k) → stateNode f m x ≡ getD (byKind m x) k (λ s. false)
+  pub node-by-kind : (m : ℕ → ℕ → Bool) (x : StateSet) (k : ℕ) → T (eqb (stateKind x) k)
+      → stateNode f m x ≡ getD (byKind m x) k (λ s. false)
   node-by-kind m x k t =
       subst (λ (j : ℕ). stateNode f m x ≡ getD (byKind m x) j (λ s. false)) (eqb→eq (stateKind x) k t) (kinds-agree m x)
 
@@ -100,4 +103,5 @@ module _ (f : File) where
   pub actions-by-kind : (m : ℕ → ℕ → Bool) (x : ActionSet) (k : ℕ) → T (eqb (actionKind x) k)
       → actionNode (f .task) m x ≡ getD (actionsByKind m x) k (λ i. false)
   actions-by-kind m x k t =
-      subst (λ (j : ℕ). actionNode (f .task) m x ≡ getD (actionsByKind m x) j (λ i. false)) (eqb→eq (actionKind x) k t) (action-kinds-agree m x)
+      subst (λ (j : ℕ). actionNode (f .task) m x ≡ getD (actionsByKind m x) j (λ i. false)) (eqb→eq (actionKind x) k t)
+      (action-kinds-agree m x)

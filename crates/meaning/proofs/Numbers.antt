@@ -42,7 +42,8 @@ below-take (suc k) j a (x ∷ xs) h l =
     let e : 256 ^ suc j ≡ P * 256 = pow-suc 256 j in
     let b : x < 256 = ltb→lt x 256 (and-left (ltb x 256) _ h) in
     let n : suc j + k ≡ j + suc k = omega arith in
-    subst (λ (m : ℕ). bigEndian (a * 256 + x) (take k xs) < 256 ^ m) n (below-take k (suc j) (a * 256 + x) xs (and-right (ltb x 256) _ h) (omega arith))
+    subst (λ (m : ℕ). bigEndian (a * 256 + x) (take k xs) < 256 ^ m) n
+    (below-take k (suc j) (a * 256 + x) xs (and-right (ltb x 256) _ h) (omega arith))
 
 below-drop : (k p : ℕ) (xs : List ℕ) → AreBytes xs → bigEndian 0 (take k (drop p xs)) < 256 ^ (0 + k)
 unfolding every

@@ -6,7 +6,8 @@ use native.Mathlib.Nat.{zero-add}
 use native.Mathlib.Omega.{arith}
 use mathlib.Core.List.{List, [], _∷_}
 use lib.ListN.{length, getD}
-use Rattle.meaning.specs.File.{ActionSet, all, listed, either, empty, StateSet, basic, complement, intersection, union, progression, regression, File, actionSetAt, stateSetAt}
+use Rattle.meaning.specs.File.{ActionSet, all, listed, either, empty, StateSet, basic, complement, intersection, union, progression}
+use Rattle.meaning.specs.File.{regression, File, actionSetAt, stateSetAt}
 use Rattle.meaning.specs.Writing.{AllFrom, FitsActionSet, FitsStateSet}
 use Rattle.meaning.proofs.Reading.{Read}
 
@@ -37,7 +38,8 @@ module _ (bytes : List ℕ) (f : File) (r : Read bytes f) where
 
   pub state-set-fits : (e : ℕ) → FitsStateSet (f .task .facts) (length (f .actionSets)) e (stateSetAt f e)
   unfolding stateSetAt
-  state-set-fits = all-anywhere (FitsStateSet (f .task .facts) (length (f .actionSets))) (basic empty) (f .stateSets) (r .state-sets) (λ _. tt)
+  state-set-fits = all-anywhere (FitsStateSet (f .task .facts) (length (f .actionSets))) (basic empty) (f .stateSets) (r .state-sets)
+      (λ _. tt)
 
 -- ---- references name earlier entries
 

@@ -2,12 +2,14 @@
 -- Assumes nothing.
 use mathlib.Core.Path.{refl}
 use Rattle.meaning.specs.Bytes.{bytesOf}
-use Rattle.meaning.specs.Writing.{each, writeEntry, actionBody, basicBody, stateBody, writeActionSet, writeStateSet, writeStep, counted, writeCertificate, fileOf}
+use Rattle.meaning.specs.Writing.{each, writeEntry, actionBody, basicBody, stateBody, writeActionSet, writeStateSet, writeStep}
+use Rattle.meaning.specs.Writing.{counted, writeCertificate, fileOf}
 use Rattle.meaning.proofs.Reading.{reads-within}
 use Rattle.meaning.proofs.Written.{reads-back}
 use Rattle.meaning.proofs.RulesSound.{rules-sound}
 use Rattle.meaning.specs.Certain.{certificateOf}
-use Rattle.meaning.specs.Points.{SampleLength, TwelveCases, RulesSound, JudgementsTrue, AcceptedIsSafe, SafeIsAccepted, CertainCertificate, SampleForm, ReadsWithin, ReadsBack, Shortcut, RefusalNumbers, AnswerNumbers}
+use Rattle.meaning.specs.Points.{SampleLength, TwelveCases, RulesSound, JudgementsTrue, AcceptedIsSafe, SafeIsAccepted}
+use Rattle.meaning.specs.Points.{CertainCertificate, SampleForm, ReadsWithin, ReadsBack, Shortcut, RefusalNumbers, AnswerNumbers}
 use Rattle.meaning.proofs.Computed.{computed}
 use Rattle.meaning.proofs.Judgements.{judgements-true, accepted-is-safe}
 use Rattle.meaning.proofs.Certain.{certain-certificate, safe-is-accepted}
@@ -38,7 +40,8 @@ pub the-certificate-lists-what-is-within-reach : CertainCertificate
 the-certificate-lists-what-is-within-reach = certain-certificate
 
 pub the-sample-has-its-form : SampleForm
-unfolding computed certificateOf each writeEntry actionBody basicBody stateBody writeActionSet writeStateSet writeStep counted writeCertificate fileOf bytesOf
+unfolding computed certificateOf each writeEntry actionBody basicBody stateBody writeActionSet writeStateSet writeStep counted
+    writeCertificate fileOf bytesOf
 the-sample-has-its-form = refl
 
 pub what-is-read-is-within-the-limits : ReadsWithin

@@ -72,7 +72,8 @@ module _ (table certificate : List ℕ) where
       bind-case (mask b n p) _ v e λ x x! e₁.
       bind-case (mask b n (p + 8)) _ v e₁ λ y y! e₂.
       bind-case (mask b n (p + 16)) _ v e₂ λ z z! q.
-      bind-in _ (same-mask n p x h x!) (bind-in _ (same-mask n (p + 8) y (omega arith) y!) (bind-in _ (same-mask n (p + 16) z (omega arith) z!) q))
+      bind-in _ (same-mask n p x h x!) (bind-in _ (same-mask n (p + 8) y (omega arith) y!)
+      (bind-in _ (same-mask n (p + 16) z (omega arith) z!) q))
 
   -- what is read of a task's bytes alone is read of a file that begins with them
   pub same-task : (r : Task × ℕ) → readTask (fileOf table []) ≡ found r → readTask (fileOf table certificate) ≡ found r

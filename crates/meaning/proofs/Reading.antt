@@ -172,12 +172,14 @@ file-walked bytes f e =
     }
 
 -- what is read is within the limits, with one more property of the steps
-file-read-with : (bytes : List ℕ) (Q : Step → Type 0) → Gives Q (step bytes) → (f : File) → readFile bytes ≡ found f → Read bytes f × All Q (f .steps)
+file-read-with : (bytes : List ℕ) (Q : Step → Type 0) → Gives Q (step bytes) → (f : File) → readFile bytes ≡ found f
+    → Read bytes f × All Q (f .steps)
 file-read-with bytes Q given f e =
     let w = file-walked bytes f e in
     let a = action-sets-give bytes (length (w .t .0 .actions)) (w .ac) (w .t .1 + 2) (w .es) (w .es!) in
     let x = state-sets-give bytes (w .t .0 .facts) (w .ac) (w .sc) (w .es .1 + 2) (w .ss) (w .ss!) in
-    let k = items-give (λ (s : Step). length (s .premises) ≡ 3) (step bytes) 12 (three-gives bytes) (w .kc) 0 (w .ss .1 + 2) (w .ks) (w .ks!) in
+    let k = items-give (λ (s : Step). length (s .premises) ≡ 3) (step bytes) 12 (three-gives bytes) (w .kc) 0 (w .ss .1 + 2) (w .ks)
+    (w .ks!) in
     let c = count-gives bytes 1 2048 (w .ss .1) (w .kc) (w .kc!) in
     subst (λ (g : File). Read bytes g × All Q (g .steps)) (w .whole) (
       record {

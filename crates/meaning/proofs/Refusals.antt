@@ -11,7 +11,8 @@ use native.Mathlib.Omega.{arith}
 use lib.Dec.{T, leb, leb→le}
 use Rattle.meaning.specs.Result.{Result, refuse, found, _>>=_, need, known}
 use Rattle.meaning.specs.File.{Step, File}
-use Rattle.meaning.specs.Layout.{items, ascending, field, count, mask, reference, action, clause, step, Kind, plain, one, two, clauses, actionKinds, stateKinds, entry, entries, readTask, readFile}
+use Rattle.meaning.specs.Layout.{items, ascending, field, count, mask, reference, action, clause, step, Kind, plain, one, two}
+use Rattle.meaning.specs.Layout.{clauses, actionKinds, stateKinds, entry, entries, readTask, readFile}
 use Rattle.meaning.specs.Rules.{_⊢_}
 use Rattle.meaning.specs.Step.{Check, statement, derivation, checkBy, checkStep}
 use Rattle.meaning.specs.declared.Reply.the-variants.{Refused}
@@ -49,9 +50,11 @@ module _ (ok : ℕ → Type 0) where
   items-ok : {A : Type 0} (read : ℕ → Result A) (size : ℕ) → ((p : ℕ) → Numbered (read p)) → (p k : ℕ) → Numbered (items read size p k)
   unfolding items
   items-ok read size h p zero = tt
-  items-ok read size h p (suc k) = then-ok (read p) _ (h p) (λ x. then-ok (items read size (p + size) k) _ (items-ok read size h (p + size) k) (λ xs. tt))
+  items-ok read size h p (suc k) = then-ok (read p) _ (h p)
+      (λ x. then-ok (items read size (p + size) k) _ (items-ok read size h (p + size) k) (λ xs. tt))
 
-  ascending-ok : (read : ℕ → Result ℕ) (size : ℕ) → ok 7 → ((p : ℕ) → Numbered (read p)) → (low p k : ℕ) → Numbered (ascending read size low p k)
+  ascending-ok : (read : ℕ → Result ℕ) (size : ℕ) → ok 7 → ((p : ℕ) → Numbered (read p)) → (low p k : ℕ)
+      → Numbered (ascending read size low p k)
   unfolding ascending
   ascending-ok read size h₇ h low p zero = tt
   ascending-ok read size h₇ h low p (suc k) =
@@ -137,7 +140,8 @@ module _ (ok : ℕ → Type 0) (h : (r : ℕ) → T (leb 1 r && leb r 7) → ok 
   action-kinds-ok m i = (
     (λ p len. tt),
     (
-      (λ p len. then-ok ok (ascending (reference bytes m) 2 0 p (len / 2)) _ (ascending-ok ok _ 2 (h 7 tt) (reference-ok m) 0 p (len / 2)) (λ is. tt)),
+      (λ p len. then-ok ok (ascending (reference bytes m) 2 0 p (len / 2)) _ (ascending-ok ok _ 2 (h 7 tt) (reference-ok m) 0 p (len / 2))
+          (λ is. tt)),
       (
         two-ok _ i i,
         tt,
@@ -157,7 +161,8 @@ module _ (ok : ℕ → Type 0) (h : (r : ℕ) → T (leb 1 r && leb r 7) → ok 
       (
         (λ p len. tt),
         (
-          (λ p len. then-ok ok (ascending (mask bytes n) 8 0 p (len / 8)) _ (ascending-ok ok _ 8 (h 7 tt) (mask-ok n) 0 p (len / 8)) (λ ss. tt)),
+          (λ p len. then-ok ok (ascending (mask bytes n) 8 0 p (len / 8)) _ (ascending-ok ok _ 8 (h 7 tt) (mask-ok n) 0 p (len / 8))
+              (λ ss. tt)),
           (
             (λ p len. then-ok ok _ _ (clauses-ok n _ p len) (λ cs. tt)),
             (
@@ -193,7 +198,8 @@ module _ (ok : ℕ → Type 0) (h : (r : ℕ) → T (leb 1 r && leb r 7) → ok 
       (known-kind ok (getElem? kinds _) 4 (p + 2) _ (h 4 tt) (body-at ok kinds b _) (λ k c.
       need-then ok _ 4 p _ (h 4 tt) (c (p + 3) (len - 1))))))
 
-  entries-ok : {A : Type 0} (kinds : ℕ → List (Kind A)) → ((i : ℕ) → AllBodies ok (kinds i)) → (i p k : ℕ) → Numbered ok (entries bytes kinds i p k)
+  entries-ok : {A : Type 0} (kinds : ℕ → List (Kind A)) → ((i : ℕ) → AllBodies ok (kinds i)) → (i p k : ℕ)
+      → Numbered ok (entries bytes kinds i p k)
   unfolding entries
   entries-ok kinds b i p zero = tt
   entries-ok kinds b i p (suc k) =
@@ -263,7 +269,8 @@ reply-number (found u) h r p e = let z : _≡_ {A = ℕ} 0 1 = cc in absurd (ome
 pub refusal-numbers : RefusalNumbers
 unfolding replyOf
 refusal-numbers bytes =
-    reply-number _ (then-ok OfCheck _ _ (read-file-ok OfCheck (λ r t. let b = of-layout r t in (b .0, omega (arith, b .1))) bytes) check-ok)
+    reply-number _ (then-ok OfCheck _ _ (read-file-ok OfCheck (λ r t. let b = of-layout r t in (b .0, omega (arith, b .1))) bytes)
+    check-ok)
 
 abbrev OfQuestion : ℕ → Type 0
 OfQuestion r = ((1 ≤ r) × (r ≤ 7)) ⊎ (r ≡ 13)

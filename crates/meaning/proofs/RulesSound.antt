@@ -33,7 +33,8 @@ module _ (y : System) (ρ : ℕ → States y) (α : ℕ → Actions y) where
       and (λ h. kept-goal y (ρ 0) (forward y (ρ 0) (ρ 1) (h .1 .0) (h .0)) (h .1 .1 .0))  -- 9 PG
       and (λ h. kept-init y (ρ 0) (forward y (ρ 0) (ρ 1) (h .1 .0) (h .0)) (h .1 .1 .0))  -- 10 PI
       and (λ h. kept-goal y (λ s. ρ 0 s → ⊥) (backward y (ρ 0) (ρ 1) (h .1 .0) (h .0)) (h .1 .1 .0))  -- 11 RG
-      and (λ h i s g a p x. kept-init y (λ s. ρ 0 s → ⊥) (backward y (ρ 0) (ρ 1) (h .1 .0) (h .0)) (h .1 .1 .0) i s g a p (λ n. n x))  -- 12 RI
+      and (λ h i s g a p x. kept-init y (λ s. ρ 0 s → ⊥) (backward y (ρ 0) (ρ 1) (h .1 .0) (h .0)) (h .1 .1 .0) i s g a p (λ n. n x))
+      -- 12 RI
       and (λ h i g a p e. h .0 i i g a here a p e)  -- 13 CI
       and (λ h i g a p e. h .0 i g g a p e here e)  -- 14 CG
       and (λ h s x. inl x)  -- 15 UR

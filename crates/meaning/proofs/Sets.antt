@@ -64,19 +64,22 @@ module _ (t : Task) where
   abbrev pub actionsIn : (ℕ → Bool) → Actions (system t)
   actionsIn A i = T (A (i .0))
 
-  pub progression-iff : (X A : ℕ → Bool) (s : system t .State) → Progression (system t) (statesIn X) (actionsIn A) s ↔ T (progressed t X A (s .0))
+  pub progression-iff : (X A : ℕ → Bool) (s : system t .State)
+      → Progression (system t) (statesIn X) (actionsIn A) s ↔ T (progressed t X A (s .0))
   unfolding progressed
   progression-iff X A u = (
     (λ (s, a, x, c, m).
         some-of (2 ^ t .facts) _ (s .0) (s .1)
-        (and-both (X (s .0)) _ x (entered t A (s .0) (λ v. eqb v (u .0)) (a .0, a .1, c, m .0, subst (λ (v : ℕ). T (eqb v (u .0))) (sym (m .1)) (eqb-refl (u .0)))))),
+        (and-both (X (s .0)) _ x (entered t A (s .0) (λ v. eqb v (u .0))
+        (a .0, a .1, c, m .0, subst (λ (v : ℕ). T (eqb v (u .0))) (sym (m .1)) (eqb-refl (u .0)))))),
     (λ h.
         let w = some-at (2 ^ t .facts) _ h in
         let v = enters t A (w .0) (λ v. eqb v (u .0)) (and-right (X (w .0)) _ (w .2)) in
         ((w .0, w .1), (v .0, v .1), and-left (X (w .0)) _ (w .2), v .2, (v .3, eqb→eq (after (actionAt t (v .0)) (w .0)) (u .0) (v .4)))),
   )
 
-  pub regression-iff : Bounded t → (X A : ℕ → Bool) (s : system t .State) → Regression (system t) (statesIn X) (actionsIn A) s ↔ T (regressed t X A (s .0))
+  pub regression-iff : Bounded t → (X A : ℕ → Bool) (s : system t .State)
+      → Regression (system t) (statesIn X) (actionsIn A) s ↔ T (regressed t X A (s .0))
   unfolding regressed
   regression-iff b X A s = (
     (λ (u, a, x, c, m). entered t A (s .0) X (a .0, a .1, c, m .0, subst (λ (v : ℕ). T (X v)) (sym (m .1)) x)),
@@ -103,7 +106,8 @@ module _ (f : File) (o : Ordered f) (b : Bounded (f .task)) where
   At = system (f .task) .State
 
   -- what is shown of the kind's set is shown of the entry's
-  by-kind : (e k : ℕ) → Kind e k → (s : At) (P : Type 0) → P ↔ T (getD (byKind f (inSet f) (stateSetAt f e)) k (λ x. false) (s .0)) → P ↔ statesOf f e s
+  by-kind : (e k : ℕ) → Kind e k → (s : At) (P : Type 0) → P ↔ T (getD (byKind f (inSet f) (stateSetAt f e)) k (λ x. false) (s .0))
+      → P ↔ statesOf f e s
   by-kind e k h s P p = subst (λ (X : ℕ → Bool). P ↔ T (X (s .0))) (sym (in-node f o e ∙ node-by-kind f (inSet f) (stateSetAt f e) k h)) p
 
   pub at-empty : (e : ℕ) → Kind e 0 → (s : At) → ⊥ ↔ statesOf f e s
@@ -118,19 +122,23 @@ module _ (f : File) (o : Ordered f) (b : Bounded (f .task)) where
   pub at-complement : (e : ℕ) → Kind e 6 → (s : At) → (statesOf f (first (stateSetAt f e)) s → ⊥) ↔ statesOf f e s
   at-complement e h s = by-kind e 6 h s _ (not-iff (inSet f (first (stateSetAt f e)) (s .0)))
 
-  pub at-intersection : (e : ℕ) → Kind e 7 → (s : At) → (statesOf f (first (stateSetAt f e)) s × statesOf f (second (stateSetAt f e)) s) ↔ statesOf f e s
+  pub at-intersection : (e : ℕ) → Kind e 7 → (s : At)
+      → (statesOf f (first (stateSetAt f e)) s × statesOf f (second (stateSetAt f e)) s) ↔ statesOf f e s
   at-intersection e h s = by-kind e 7 h s _ (and-iff (inSet f (first (stateSetAt f e)) (s .0)) (inSet f (second (stateSetAt f e)) (s .0)))
 
-  pub at-union : (e : ℕ) → Kind e 8 → (s : At) → (statesOf f (first (stateSetAt f e)) s ⊎ statesOf f (second (stateSetAt f e)) s) ↔ statesOf f e s
+  pub at-union : (e : ℕ) → Kind e 8 → (s : At) → (statesOf f (first (stateSetAt f e)) s ⊎ statesOf f (second (stateSetAt f e)) s)
+      ↔ statesOf f e s
   at-union e h s = by-kind e 8 h s _ (or-iff (inSet f (first (stateSetAt f e)) (s .0)) (inSet f (second (stateSetAt f e)) (s .0)))
 
   pub at-progression : (e : ℕ) → Kind e 9 → (s : At)
       → Progression (system (f .task)) (statesOf f (first (stateSetAt f e))) (actionsOf f (second (stateSetAt f e))) s ↔ statesOf f e s
-  at-progression e h s = by-kind e 9 h s _ (progression-iff (f .task) (inSet f (first (stateSetAt f e))) (inActions f (second (stateSetAt f e))) s)
+  at-progression e h s = by-kind e 9 h s _ (progression-iff (f .task) (inSet f (first (stateSetAt f e)))
+      (inActions f (second (stateSetAt f e))) s)
 
   pub at-regression : (e : ℕ) → Kind e 10 → (s : At)
       → Regression (system (f .task)) (statesOf f (first (stateSetAt f e))) (actionsOf f (second (stateSetAt f e))) s ↔ statesOf f e s
-  at-regression e h s = by-kind e 10 h s _ (regression-iff (f .task) b (inSet f (first (stateSetAt f e))) (inActions f (second (stateSetAt f e))) s)
+  at-regression e h s = by-kind e 10 h s _ (regression-iff (f .task) b (inSet f (first (stateSetAt f e)))
+      (inActions f (second (stateSetAt f e))) s)
 
   abbrev ActionKind : ℕ → ℕ → Type 0
   ActionKind a k = T (eqb (actionKind (actionSetAt f a)) k)
@@ -145,7 +153,8 @@ module _ (f : File) (o : Ordered f) (b : Bounded (f .task)) where
 
   pub at-either : (a : ℕ) → ActionKind a 2 → (i : system (f .task) .Action)
       → (actionsOf f (firstAction (actionSetAt f a)) i ⊎ actionsOf f (secondAction (actionSetAt f a)) i) ↔ actionsOf f a i
-  at-either a h i = by-action-kind a 2 h i _ (or-iff (inActions f (firstAction (actionSetAt f a)) (i .0)) (inActions f (secondAction (actionSetAt f a)) (i .0)))
+  at-either a h i = by-action-kind a 2 h i _ (or-iff (inActions f (firstAction (actionSetAt f a)) (i .0))
+      (inActions f (secondAction (actionSetAt f a)) (i .0)))
 
 -- ---- inclusions
 

@@ -47,7 +47,8 @@ module _ (f : File) (o : Ordered f) where
   node-depth g h e (progression a b) l k = ap suc (k a l)
   node-depth g h e (regression a b) l k = ap suc (k a l)
 
-  node-progression : (g h : ℕ → Bool) (e : ℕ) (x : StateSet) → Earlier e x → ((a : ℕ) → a < e → g a ≡ h a) → progressionNode g x ≡ progressionNode h x
+  node-progression : (g h : ℕ → Bool) (e : ℕ) (x : StateSet) → Earlier e x → ((a : ℕ) → a < e → g a ≡ h a)
+      → progressionNode g x ≡ progressionNode h x
   unfolding progressionNode
   node-progression g h e (basic b) l k = refl
   node-progression g h e (complement a) l k = k a l
@@ -72,7 +73,8 @@ module _ (f : File) (o : Ordered f) where
   unfolding bounds
   one-part d a = rw (leb·suc-suc (depth f a) d) refl
 
-  two-parts : (d a b : ℕ) → not (hasProgression f a || hasProgression f b) && leb (suc (max (depth f a) (depth f b))) (suc d) ≡ bounds a d && bounds b d
+  two-parts : (d a b : ℕ) → not (hasProgression f a || hasProgression f b) && leb (suc (max (depth f a) (depth f b))) (suc d) ≡ bounds a d
+      && bounds b d
   unfolding bounds
   two-parts d a b =
       rw (leb·suc-suc (max (depth f a) (depth f b)) d, leb-max (depth f a) (depth f b) d)

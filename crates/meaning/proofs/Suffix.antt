@@ -60,7 +60,8 @@ pub file-at : (table certificate : List ℕ) → At (fileOf table certificate) 4
 unfolding fileOf
 file-at table certificate =
     let n : ℕ = length (table ++ certificate) in
-    at-next (fileOf table certificate) 0 (bytesOf 4 n) (table ++ certificate) (whole (fileOf table certificate)) 4 (ap (λ (k : ℕ). 0 + k) (length-bytesOf 4 n))
+    at-next (fileOf table certificate) 0 (bytesOf 4 n) (table ++ certificate) (whole (fileOf table certificate)) 4
+    (ap (λ (k : ℕ). 0 + k) (length-bytesOf 4 n))
 
 -- how long a file is
 pub length-file : (table certificate : List ℕ) → length (fileOf table certificate) ≡ 4 + (length table + length certificate)

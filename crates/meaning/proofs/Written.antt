@@ -12,7 +12,8 @@ use Rattle.meaning.specs.Result.{found}
 use Rattle.meaning.specs.Bytes.{bytesOf, number}
 use Rattle.meaning.specs.File.{ActionSet, StateSet, Step, File}
 use Rattle.meaning.specs.Layout.{action, step, readTask, readFile}
-use Rattle.meaning.specs.Writing.{each, writeAction, writeActionSet, writeStateSet, writeStep, counted, writeTask, writeCertificate, fileOf, writeFile, AllFrom, FitsAction, FitsTask, FitsStep, FitsCertificate, Fits, Lawful}
+use Rattle.meaning.specs.Writing.{each, writeAction, writeActionSet, writeStateSet, writeStep, counted, writeTask, writeCertificate}
+use Rattle.meaning.specs.Writing.{fileOf, writeFile, AllFrom, FitsAction, FitsTask, FitsStep, FitsCertificate, Fits, Lawful}
 use Rattle.meaning.proofs.Results.{bind-in, need-in, and-in}
 use Rattle.meaning.proofs.Numbers.{length-bytesOf}
 use Rattle.meaning.proofs.Reading.{task-fits}
@@ -39,24 +40,28 @@ length-task t =
     simp (length-append, length-bytesOf) (omega arith)
 
 -- wherever a file has the bytes of a task that fits behind its length, it reads as that task
-task-back : (b rest : List ℕ) (t : Task) → FitsTask t → At b 4 (writeTask t ++ rest) → readTask b ≡ found (t, 24 + 24 * length (t .actions))
+task-back : (b rest : List ℕ) (t : Task) → FitsTask t → At b 4 (writeTask t ++ rest)
+    → readTask b ≡ found (t, 24 + 24 * length (t .actions))
 unfolding readTask writeTask counted
 task-back b rest t h w =
     let m : ℕ = length (t .actions) in
     let w₅ = after-byte b 4 1 _ w 5 refl in
     let w₆ : At b 6 (bytesOf 8 (t .init) ++ (bytesOf 8 (t .goal) ++ (bytesOf 2 m ++ (each writeAction (t .actions) ++ rest)))) =
-    simp append-assoc at (after-byte b 5 (t .facts) (bytesOf 8 (t .init) ++ bytesOf 8 (t .goal) ++ counted writeAction (t .actions) ++ rest) w₅ 6 refl) in
+    simp append-assoc at (after-byte b 5 (t .facts)
+    (bytesOf 8 (t .init) ++ bytesOf 8 (t .goal) ++ counted writeAction (t .actions) ++ rest) w₅ 6 refl) in
     let w₁₄ = after-number b 6 8 (t .init) _ w₆ 14 refl in
     let w₂₂ = after-number b 14 8 (t .goal) _ w₁₄ 22 refl in
     let w₂₄ = after-number b 22 2 m _ w₂₂ 24 refl in
     bind-in _ (byte-field b 1 4 _ w)
     (bind-in _ (need-in _ 2 4 tt)
     (bind-in _ (byte-field b (t .facts) 5 _ w₅)
-    (bind-in _ (need-in _ 4 5 (and-in (leb 1 (t .facts)) (leb (t .facts) 64) (le→leb 1 (t .facts) (h .some-facts)) (le→leb (t .facts) 64 (h .few-facts))))
+    (bind-in _ (need-in _ 4 5 (and-in (leb 1 (t .facts)) (leb (t .facts) 64) (le→leb 1 (t .facts) (h .some-facts))
+    (le→leb (t .facts) 64 (h .few-facts))))
     (bind-in _ (mask-back b (t .facts) (h .few-facts) (t .init) (h .init) 6 _ w₆)
     (bind-in _ (mask-back b (t .facts) (h .few-facts) (t .goal) (h .goal) 14 _ w₁₄)
     (bind-in _ (count-back b 0 256 (omega arith) m (omega arith, h .few-actions) 22 _ w₂₂)
-    (bind-in _ (items-back (FitsAction (t .facts)) writeAction 24 (λ a _. length-action a) b (action b (t .facts)) (action-back b (t .facts) (h .few-facts)) (t .actions) 0 (h .actions) 24 rest w₂₄)
+    (bind-in _ (items-back (FitsAction (t .facts)) writeAction 24 (λ a _. length-action a) b (action b (t .facts))
+    (action-back b (t .facts) (h .few-facts)) (t .actions) 0 (h .actions) 24 rest w₂₄)
     refl)))))))
 
 -- the bytes of a task that fits are a lawful table
@@ -70,12 +75,15 @@ task-lawful t h =
 
 -- a certificate that stands behind the task is read back
 certificate-back : (b : List ℕ) (t : Task) (q : ℕ) (es : List ActionSet) (ss : List StateSet) (ks : List Step)
-    → 4 ≤ length b → length b ≤ 65536 → number 4 b 0 + 4 ≡ length b → readTask b ≡ found (t, q) → FitsCertificate t es ss ks → At b q (writeCertificate es ss ks ++ [])
+    → 4 ≤ length b → length b ≤ 65536 → number 4 b 0 + 4 ≡ length b → readTask b ≡ found (t, q) → FitsCertificate t es ss ks
+    → At b q (writeCertificate es ss ks ++ [])
     → readFile b ≡ found (record { task = t; actionSets = es; stateSets = ss; steps = ks })
 unfolding readFile writeCertificate counted
 certificate-back b t q es ss ks low high size t! h w =
     let ft : FitsTask t = task-fits b t q t! in
-    let w₀ : At b q (bytesOf 2 (length es) ++ (each writeActionSet es ++ (bytesOf 2 (length ss) ++ (each writeStateSet ss ++ (bytesOf 2 (length ks) ++ (each writeStep ks ++ [])))))) = simp append-assoc at w in
+    let w₀ : At b q (bytesOf 2 (length es) ++ (each writeActionSet es
+    ++ (bytesOf 2 (length ss) ++ (each writeStateSet ss ++ (bytesOf 2 (length ks) ++ (each writeStep ks ++ [])))))) =
+    simp append-assoc at w in
     let w₁ = after-number b q 2 (length es) _ w₀ (q + 2) refl in
     let q₁ : ℕ = q + 2 + length (each writeActionSet es) in
     let w₂ = at-next b (q + 2) (each writeActionSet es) _ w₁ q₁ refl in
@@ -91,13 +99,15 @@ certificate-back b t q es ss ks low high size t! h w =
     (bind-in _ (count-back b 0 256 (omega arith) (length es) (omega arith, h .few-action-sets) q _ w₀)
     (bind-in _ (action-sets-back b (length (t .actions)) (ft .few-actions) es (h .few-action-sets) (h .action-sets) (q + 2) _ w₁)
     (bind-in _ (count-back b 0 512 (omega arith) (length ss) (omega arith, h .few-state-sets) q₁ _ w₂)
-    (bind-in _ (state-sets-back b (t .facts) (length es) (ft .few-facts) (h .few-action-sets) ss (h .few-state-sets) (h .state-sets) (q₁ + 2) _ w₃)
+    (bind-in _ (state-sets-back b (t .facts) (length es) (ft .few-facts) (h .few-action-sets) ss (h .few-state-sets) (h .state-sets)
+    (q₁ + 2) _ w₃)
     (bind-in _ (count-back b 1 2048 (omega arith) (length ks) (h .some-steps, h .few-steps) q₂ _ w₄)
     (bind-in _ (items-back FitsStep writeStep 12 length-step b (step b) (step-back b) ks 0 (h .steps) (q₂ + 2) [] w₅)
     (bind-in _ (need-in _ 3 (q₂ + 2 + 12 * length ks) (le→leb (length b) (q₂ + 2 + 12 * length ks) last)) refl)))))))))
 
 -- a file's length field
-file-number : (table certificate : List ℕ) → length (fileOf table certificate) ≤ 65536 → number 4 (fileOf table certificate) 0 + 4 ≡ length (fileOf table certificate)
+file-number : (table certificate : List ℕ) → length (fileOf table certificate) ≤ 65536
+    → number 4 (fileOf table certificate) 0 + 4 ≡ length (fileOf table certificate)
 unfolding fileOf
 file-number table certificate short =
     let n : ℕ = length (table ++ certificate) in
@@ -120,4 +130,5 @@ certificate-reads table t es ss ks law h short =
 pub reads-back : (f : File) → Fits f → length (writeFile f) ≤ 65536 → readFile (writeFile f) ≡ found f
 unfolding writeFile
 reads-back f h short =
-    certificate-reads (writeTask (f .task)) (f .task) (f .actionSets) (f .stateSets) (f .steps) (task-lawful (f .task) (h .task)) (h .certificate) short
+    certificate-reads (writeTask (f .task)) (f .task) (f .actionSets) (f .stateSets) (f .steps) (task-lawful (f .task) (h .task))
+    (h .certificate) short

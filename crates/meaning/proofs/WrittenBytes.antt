@@ -9,8 +9,10 @@ use Rattle.task.specs.Reach.{every}
 use Rattle.task.proofs.Tests.{and-left, and-right, and-both}
 use Rattle.meaning.specs.declared.Clause.{Clause}
 use Rattle.meaning.specs.Bytes.{bytesOf, AreBytes}
-use Rattle.meaning.specs.File.{ActionSet, all, listed, either, empty, init, goal, explicit, horn, twoCnf, StateSet, basic, complement, intersection, union, progression, regression, Step, actionKind, basicKind, stateKind}
-use Rattle.meaning.specs.Writing.{each, writeClause, writeEntry, actionBody, basicBody, stateBody, writeActionSet, writeStateSet, writeStep, counted, writeCertificate, AllFrom, FitsStep}
+use Rattle.meaning.specs.File.{ActionSet, all, listed, either, empty, init, goal, explicit, horn, twoCnf, StateSet, basic}
+use Rattle.meaning.specs.File.{complement, intersection, union, progression, regression, Step, actionKind, basicKind, stateKind}
+use Rattle.meaning.specs.Writing.{each, writeClause, writeEntry, actionBody, basicBody, stateBody, writeActionSet, writeStateSet}
+use Rattle.meaning.specs.Writing.{writeStep, counted, writeCertificate, AllFrom, FitsStep}
 use Rattle.meaning.proofs.Written.{anything}
 
 -- each number is a byte: of ∷, of ++, of a written number, of items
@@ -32,7 +34,8 @@ bytes-none = tt
 pub bytes-number : (k x : ℕ) → AreBytes (bytesOf k x)
 unfolding bytesOf
 bytes-number zero x = bytes-none
-bytes-number (suc k) x = bytes-append (bytesOf k (x / 256)) (x % 256 ∷ []) (bytes-number k (x / 256)) (byte-more (x % 256) [] (omega arith) bytes-none)
+bytes-number (suc k) x = bytes-append (bytesOf k (x / 256)) (x % 256 ∷ []) (bytes-number k (x / 256))
+    (byte-more (x % 256) [] (omega arith) bytes-none)
 
 two-numbers : (j k x y : ℕ) → AreBytes (bytesOf j x ++ bytesOf k y)
 two-numbers j k x y = bytes-append (bytesOf j x) (bytesOf k y) (bytes-number j x) (bytes-number k y)
@@ -52,7 +55,8 @@ bytes-clause c = two-numbers 8 8 (c .positive) (c .negative)
 
 bytes-entry : (kind : ℕ) (body : List ℕ) → kind < 256 → AreBytes body → AreBytes (writeEntry kind body)
 unfolding writeEntry
-bytes-entry kind body l h = bytes-append (bytesOf 2 (suc (length body))) (kind ∷ body) (bytes-number 2 (suc (length body))) (byte-more kind body l h)
+bytes-entry kind body l h = bytes-append (bytesOf 2 (suc (length body))) (kind ∷ body) (bytes-number 2 (suc (length body)))
+    (byte-more kind body l h)
 
 bytes-action-set : (a : ActionSet) → AreBytes (writeActionSet a)
 unfolding writeActionSet actionKind actionBody
@@ -81,11 +85,16 @@ bytes-step s h =
     (byte-more (s .rule) _ (h .rule) (byte-more (s .kind) _ (h .kind) (two-numbers 2 2 (s .left) (s .right))))
     (bytes-all (bytesOf 2) (bytes-number 2) (s .premises))
 
-pub certificate-bytes : (es : List ActionSet) (ss : List StateSet) (ks : List Step) (i : ℕ) → AllFrom (λ _. FitsStep) i ks → AreBytes (writeCertificate es ss ks)
+pub certificate-bytes : (es : List ActionSet) (ss : List StateSet) (ks : List Step) (i : ℕ) → AllFrom (λ _. FitsStep) i ks
+    → AreBytes (writeCertificate es ss ks)
 unfolding writeCertificate counted
 certificate-bytes es ss ks i h =
-    bytes-append (bytesOf 2 (length es) ++ each writeActionSet es ++ (bytesOf 2 (length ss) ++ each writeStateSet ss)) (bytesOf 2 (length ks) ++ each writeStep ks)
+    bytes-append (bytesOf 2 (length es) ++ each writeActionSet es ++ (bytesOf 2 (length ss) ++ each writeStateSet ss))
+    (bytesOf 2 (length ks) ++ each writeStep ks)
     (bytes-append (bytesOf 2 (length es) ++ each writeActionSet es) (bytesOf 2 (length ss) ++ each writeStateSet ss)
-    (bytes-append (bytesOf 2 (length es)) (each writeActionSet es) (bytes-number 2 (length es)) (bytes-all writeActionSet bytes-action-set es))
-    (bytes-append (bytesOf 2 (length ss)) (each writeStateSet ss) (bytes-number 2 (length ss)) (bytes-all writeStateSet bytes-state-set ss)))
-    (bytes-append (bytesOf 2 (length ks)) (each writeStep ks) (bytes-number 2 (length ks)) (bytes-each FitsStep writeStep bytes-step ks i h))
+    (bytes-append (bytesOf 2 (length es)) (each writeActionSet es) (bytes-number 2 (length es))
+    (bytes-all writeActionSet bytes-action-set es))
+    (bytes-append (bytesOf 2 (length ss)) (each writeStateSet ss) (bytes-number 2 (length ss))
+    (bytes-all writeStateSet bytes-state-set ss)))
+    (bytes-append (bytesOf 2 (length ks)) (each writeStep ks) (bytes-number 2 (length ks))
+    (bytes-each FitsStep writeStep bytes-step ks i h))

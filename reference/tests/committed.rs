@@ -1,0 +1,58 @@
+//! The cases that stand in crates/vectors, so that the proved checker is held to them with no generator at hand: their replies are
+//! those given today, and every reply and rule is among them.
+
+use std::collections::BTreeSet;
+use std::path::PathBuf;
+
+use reference::generate::Case;
+use reference::layout;
+use reference::steps::check_step;
+
+fn read(name: &str) -> Vec<u8> {
+    let folder = PathBuf::from(env!("CARGO_MANIFEST_DIR")).join("../crates/vectors");
+    std::fs::read(folder.join(name)).expect("a file of crates/vectors")
+}
+
+/// The cases of records.
+fn cases(mut records: &[u8]) -> Vec<Case> {
+    let word = |bytes: &[u8]| u64::from_be_bytes(bytes.try_into().expect("eight bytes"));
+    let mut list = Vec::new();
+    while !records.is_empty() {
+        let (head, rest) = records.split_at(21);
+        let length = u32::from_be_bytes([head[17], head[18], head[19], head[20]]) as usize;
+        let (bytes, rest) = rest.split_at(length);
+        let question = (head[0] == 1).then_some((word(&head[1..9]), word(&head[9..17])));
+        list.push(Case { question, bytes: bytes.to_vec() });
+        assert!(records.starts_with(&list[list.len() - 1].record()));
+        records = rest;
+    }
+    list
+}
+
+/// Where a reply changes, `reference/README.md` says how to make the cases anew.
+#[test]
+fn their_replies_are_those_given_today() {
+    let replies = String::from_utf8(read("stdout")).expect("text");
+    let cases = cases(&read("stdin"));
+    assert_eq!(replies.lines().count(), cases.len());
+    for (k, (case, reply)) in cases.iter().zip(replies.lines()).enumerate() {
+        assert_eq!(case.reply(), reply, "case {}: {}", k + 1, case.line());
+    }
+}
+
+#[test]
+fn every_reply_and_rule_is_among_them() {
+    let mut replies = BTreeSet::new();
+    let mut passed = BTreeSet::new();
+    for case in cases(&read("stdin")) {
+        let reply = case.reply();
+        replies.insert(reply.split(' ').take(2).collect::<Vec<&str>>().join(" "));
+        let Ok(file) = layout::read(&case.bytes) else { continue };
+        let steps = 0..file.steps.len();
+        passed.extend(steps.take_while(|k| check_step(&file, *k).is_ok()).map(|k| file.steps[k].rule));
+    }
+    let refusals = (1..=13).map(|number| format!("refused {number}"));
+    let all: BTreeSet<String> = refusals.chain(["accepted", "in", "out"].map(String::from)).collect();
+    assert_eq!(replies, all);
+    assert_eq!(passed, (1..=28).collect());
+}
