@@ -50,5 +50,6 @@ told-out (answer.Refused r p) h e = absurd (omega (arith, e, refusal-above r p (
 pub told : (bytes : List ℕ) (e s : ℕ) {c : ℕ} → c ≡ answerCodeOf (answerOf bytes e s)
     → (c ≡ 1 → answerOf bytes e s ≡ answer.In) × (c ≡ 0 → answerOf bytes e s ≡ answer.Out)
 told bytes e s q =
-    let h : (r p : ℕ) → answerOf bytes e s ≡ answer.Refused r p → 1 ≤ r = λ r p w. least (a-refused-question-has-its-number bytes e s r p w) in
+    let h : (r p : ℕ) → answerOf bytes e s ≡ answer.Refused r p
+    → 1 ≤ r = λ r p w. least (a-refused-question-has-its-number bytes e s r p w) in
     ((λ z. told-in (answerOf bytes e s) h (sym q ∙ z)), (λ z. told-out (answerOf bytes e s) h (sym q ∙ z)))
