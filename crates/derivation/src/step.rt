@@ -6,8 +6,6 @@ use certificate::Step;
 use certificate::StepReply;
 use certificate::lookup::judgement;
 use numbers::RuleNumber;
-use rules::dead;
-use rules::within;
 ghost use mathlib.Core.Path.{_≡_};
 ghost use Prim.Native.Nat.{ℕ, _≤_};
 ghost use mathlib.Core.Bool.{true, _&&_};

@@ -1,4 +1,1 @@
-// Rules 6 to 28: each is answered by its pattern.
-
-pub mod dead;
-pub mod within;
+// When a step follows by a rule of 6 to 28 from its premises, as one test on judgements. Definitions and laws alone; there is no code.
