@@ -14,8 +14,9 @@ use Rattle.certificate.specs.Known.{Known, decoded}
 use Rattle.certificate.proofs.TableLaws.{NoneOf}
 use Rattle.meaning.specs.File.{File}
 use Rattle.counterexample.specs.Counter.{Asked, Counter, ActionsOf, Refuted}
-use Rattle.shapes.specs.declared.shape.Gathered.{Gathered}
-use Rattle.shapes.specs.Gathered.{actionsOfRule, leftOf, rightOf, Acts, Gathers}
+use Rattle.kinds.specs.declared.Gathered.{Gathered}
+use Rattle.parts.specs.Written.{actionsOfRule}
+use Rattle.shapes.specs.Gathered.{leftOf, rightOf, Acts, Gathers}
 use Rattle.inclusion.specs.Search.{hasBracket, CounteredBy, WithBracket, ByRule}
 use Rattle.inclusion.proofs.Gathered.{countered-refuted}
 

@@ -30,8 +30,9 @@ use Rattle.leaves.proofs.ListLaws.{each-at}
 use Rattle.leaves.proofs.KnownLeaves.{KeepsRule, known-orderly, known-kind, known-horn, known-two, known-listed-low}
 use Rattle.propagation.specs.Clauses.{Clausal, Unlisted}
 use Rattle.listed.specs.Listed.{ListsStates, Anchored}
-use Rattle.shapes.specs.declared.shape.Gathered.{Gathered}
-use Rattle.shapes.specs.Gathered.{leafOf, kindsOf, AllBasic, mayAnchor, leftOf, rightOf, Gathers}
+use Rattle.kinds.specs.declared.Gathered.{Gathered}
+use Rattle.shapes.specs.Gathered.{leafOf, kindsOf, AllBasic, leftOf, rightOf, Gathers}
+use Rattle.kinds.specs.Summary.{mayAnchor}
 use Rattle.inclusion.specs.Search.{Searchable}
 
 module _ (bytes : List ℕ) (index : List ℕ) (k : Known bytes index) where

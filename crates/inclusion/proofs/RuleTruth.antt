@@ -14,10 +14,11 @@ use Rattle.meaning.proofs.Order.{Ordered}
 use Rattle.meaning.specs.Sets.{statesWithin}
 use Rattle.meaning.specs.Shapes.{keep, kindAt, leaves, shapeWith, shape₂, shape₃}
 use Rattle.counterexample.specs.Counter.{Asked, Counter}
-use Rattle.shapes.specs.Gathered.{notEmpty, bracketLeaf, bracketSides, shapeOf, sidesOf, afterOf, actionsOfRule, leftOf, rightOf, Acts}
+use Rattle.shapes.specs.Gathered.{notEmpty, afterOf, leftOf, rightOf, Acts}
+use Rattle.parts.specs.Written.{bracketLeaf, bracketSides, shapeOf, sidesOf, actionsOfRule}
 use Rattle.counterexample.proofs.Reduced.{truth-1, truth-2, truth-3, truth-4}
 use Rattle.shapes.proofs.Filled.{drop-empty}
-use Rattle.shapes.proofs.LeafKinds.{the-only}
+use Rattle.parts.proofs.PartLaws.{the-only}
 
 abbrev NoCounterOf : File → ℕ → ℕ → ℕ → Type 0
 NoCounterOf f rule a b = Counter f (Acts f rule a) (leftOf f rule a b) (rightOf f rule a b) → ⊥

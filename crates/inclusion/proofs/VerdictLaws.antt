@@ -22,7 +22,8 @@ use Rattle.inclusion.specs.declared.Verdict.the-variants.{Holds, Untrue,
 use Rattle.meaning.specs.Sets.{statesWithin, actionsWithin}
 use Rattle.meaning.specs.Shapes.{kindAt, leaves, shape₁, shapeWith, shape₂, shape₃, shape₄}
 use Rattle.counterexample.specs.Counter.{Counter}
-use Rattle.shapes.specs.Gathered.{shapeOf, bracketLeaf, actionsOfRule, leftOf, rightOf, Acts}
+use Rattle.parts.specs.Written.{shapeOf, bracketLeaf, actionsOfRule}
+use Rattle.shapes.specs.Gathered.{leftOf, rightOf, Acts}
 use Rattle.meaning.specs.Statements.{statements}
 use Rattle.inclusion.specs.Search.{hasBracket}
 use Rattle.inclusion.specs.Verdict.{verdictBut, verdictBy, verdictOr, verdictOf}

@@ -17,7 +17,7 @@ use Rattle.leaves.specs.Holds.{Orderly}
 use Rattle.leaves.specs.Lists.{Each, Countered}
 use Rattle.propagation.specs.Clauses.{Clausal, Unlisted}
 use Rattle.listed.specs.Listed.{Anchored}
-use Rattle.shapes.specs.declared.shape.Gathered.{Gathered}
+use Rattle.kinds.specs.declared.Gathered.{Gathered}
 
 -- rules 2 and 3 have a bracket
 unfoldable pub hasBracket : ℕ → Bool

@@ -19,12 +19,13 @@ use Rattle.counterexample.specs.Counter.{Asked, leftLeaves}
 use Rattle.leaves.specs.declared.Leaf.{Leaf}
 use Rattle.leaves.specs.Leaves.{kindOf, leafIn}
 use Rattle.shapes.specs.Gathered.{leafOf, AllBasic}
-use Rattle.shapes.specs.declared.sorts.Counts.{Counts}
+use Rattle.kinds.specs.declared.Counts.{Counts}
 use Rattle.shapes.specs.Arrays.{Put}
-use Rattle.shapes.specs.Summary.{Anchor, fromOf, toOf, anchorsOf}
+use Rattle.kinds.specs.Summary.{Anchor, fromOf, toOf}
+use Rattle.parts.specs.Written.{anchorsOf}
 use Rattle.counterexample.proofs.Moved.{leaf, under, plain, turned}
 use Rattle.shapes.proofs.LeafKinds.{outsideLeaves, kinds-outside, kinds-left}
-use Rattle.shapes.proofs.SummaryLaws.{from-inside, to-inside, from-outside, to-outside}
+use Rattle.kinds.proofs.SummaryLaws.{from-inside, to-inside, from-outside, to-outside}
 use Rattle.shapes.proofs.KindLaws.{Row, hit, length-kinds, leaf-at, kind-at, put-length, anchor-found}
 
 abbrev none : Asked

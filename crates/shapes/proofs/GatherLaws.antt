@@ -13,12 +13,16 @@ use Rattle.meaning.specs.File.{File}
 use Rattle.meaning.specs.Shapes.{keep, Sides, isBasic, isLiteral, movedLeft, movedRight, bracket}
 use Rattle.counterexample.specs.Counter.{Asked, leftLeaves, rightLeaves}
 use Rattle.leaves.specs.Leaves.{leafIn, leavesIn}
-use Rattle.shapes.specs.Gathered.{mayAnchor, AllBasic, notEmpty, kindsOf, sidesOf, afterOf, leftOf, rightOf, actionsOfRule, Gathers}
-use Rattle.shapes.specs.declared.sorts.Counts.{Counts}
-use Rattle.shapes.specs.declared.sorts.Flags.{Flags}
-use Rattle.shapes.specs.declared.shape.Gathered.{Gathered}
+use Rattle.kinds.specs.Summary.{mayAnchor}
+use Rattle.shapes.specs.Gathered.{AllBasic, notEmpty, kindsOf, afterOf, leftOf, rightOf, Gathers}
+use Rattle.parts.specs.Written.{sidesOf, actionsOfRule}
+use Rattle.kinds.specs.declared.Counts.{Counts}
+use Rattle.kinds.specs.declared.Flags.{Flags}
+use Rattle.kinds.specs.declared.Gathered.{Gathered}
 use Rattle.shapes.specs.Arrays.{Put}
-use Rattle.shapes.specs.Summary.{kindIn, flagsIn, toOf, permitsBy, Summary, literalsOf, Filled, anchorsOf, Zeros}
+use Rattle.kinds.specs.Summary.{kindIn, flagsIn, toOf, permitsBy, Summary}
+use Rattle.parts.specs.Written.{literalsOf, anchorsOf}
+use Rattle.shapes.specs.Arrays.{Filled, Zeros}
 use Rattle.shapes.proofs.Filled.{kindAsked, filled-cases}
 use Rattle.shapes.proofs.LeafKinds.{outsideLeaves, kinds-left, kinds-right, right-count, basic-left, basic-right}
 use Rattle.shapes.proofs.KindLaws.{hit, length-kinds, put-length, put-leaves, kind-at, kind-in}

@@ -13,14 +13,17 @@ use Rattle.task.proofs.Tests.{and-left, excluded, never, same, holds, is-false}
 use Rattle.meaning.specs.File.{File}
 use Rattle.meaning.specs.Shapes.{Sides, isLiteral, isComplement, literalKind, mixed, movedLeft, bracket, ofLiterals, ofClauses, ofStates}
 use Rattle.meaning.specs.Shapes.{permitted, shape₄}
-use Rattle.shapes.specs.Gathered.{shapeOf, sidesOf, Gathers}
-use Rattle.shapes.specs.declared.sorts.Counts.{Counts}
-use Rattle.shapes.specs.declared.parts.Parts.{Parts}
-use Rattle.shapes.specs.declared.shape.Gathered.{Gathered}
-use Rattle.shapes.specs.Summary.{clausesBy, statesBy, pairBy, permitsBy, Summary, sidesIn, Parted, anchorsOf, literalsOf, Filled}
-use Rattle.shapes.specs.Summary.{Zeros}
+use Rattle.parts.specs.Written.{shapeOf, sidesOf}
+use Rattle.shapes.specs.Gathered.{Gathers}
+use Rattle.kinds.specs.declared.Counts.{Counts}
+use Rattle.parts.specs.declared.Parts.{Parts}
+use Rattle.kinds.specs.declared.Gathered.{Gathered}
+use Rattle.kinds.specs.Summary.{clausesBy, statesBy, pairBy, permitsBy, Summary}
+use Rattle.parts.specs.Written.{sidesIn, Parted, anchorsOf, literalsOf}
+use Rattle.shapes.specs.Arrays.{Filled}
+use Rattle.shapes.specs.Arrays.{Zeros}
 use Rattle.trees.proofs.TreeLaws.{count-list}
-use Rattle.shapes.proofs.SummaryLaws.{permits-pair, permits-sorts}
+use Rattle.kinds.proofs.SummaryLaws.{permits-pair, permits-sorts}
 use Rattle.shapes.proofs.KindLaws.{hit}
 use Rattle.shapes.proofs.ShapeLaws.{permitted-by, pairSides, paired-by}
 use Rattle.shapes.proofs.SortLaws.{clash, sorted, sorted-pair, pair-few, pair-anchor}

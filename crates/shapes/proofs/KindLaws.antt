@@ -27,9 +27,10 @@ use Rattle.certificate.specs.Index.{statePlace}
 use Rattle.leaves.specs.declared.Leaf.{Leaf}
 use Rattle.leaves.specs.Leaves.{kindOf, unpacked, leafIn, leavesIn, basicIn, setOf}
 use Rattle.trees.proofs.NodeLaws.{basic-kind}
-use Rattle.shapes.specs.Gathered.{leafOf, mayAnchor, AllBasic, kindsOf}
+use Rattle.shapes.specs.Gathered.{leafOf, AllBasic, kindsOf}
+use Rattle.kinds.specs.Summary.{mayAnchor}
 use Rattle.shapes.specs.Arrays.{Put}
-use Rattle.shapes.specs.Summary.{kindIn, Anchor}
+use Rattle.kinds.specs.Summary.{kindIn, Anchor}
 use Rattle.meaning.proofs.Below.{some-at, some-of}
 
 -- ---- a number in a list, by its index

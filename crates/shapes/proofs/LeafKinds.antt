@@ -10,20 +10,13 @@ use lib.Dec.{T, eqb, eqb→eq, leb}
 use Rattle.task.specs.Reach.{every}
 use Rattle.task.proofs.Tests.{and-left, and-right, and-both, or-cases, not-of}
 use Rattle.meaning.specs.File.{File}
-use Rattle.meaning.specs.Shapes.{keep, theOnly, Sides, kindAt, child, isBasic, isComplement, isLiteral, literalKind, complements, others}
+use Rattle.meaning.specs.Shapes.{keep, Sides, kindAt, child, isBasic, isComplement, isLiteral, literalKind, complements, others}
 use Rattle.meaning.specs.Shapes.{movedLeft, movedRight, bracket}
 use Rattle.counterexample.specs.Counter.{Asked, leftLeaves, rightLeaves}
 use Rattle.counterexample.proofs.Lists.{keep-cases, every-map, of-append}
 use Rattle.counterexample.proofs.Moved.{leaf, under, plain, turned}
 use Rattle.shapes.specs.Gathered.{AllBasic, kindsOf, notEmpty}
 use Rattle.shapes.proofs.Filled.{kindAsked, filled-count}
-
--- a list with one element, which passes the test
-pub the-only : (xs : List ℕ) (t : ℕ → Bool) → T (theOnly xs t) → (p : ℕ) × (xs ≡ p ∷ []) × T (t p)
-unfolding theOnly
-the-only [] t h = absurd h
-the-only (x ∷ []) t h = (x, refl, h)
-the-only (x ∷ y ∷ ys) t h = absurd h
 
 module _ (f : File) where
   -- the left leaves outside the bracket

@@ -6,9 +6,6 @@ pub mod PickLaws
 pub mod SortLaws
 pub mod ShapeLaws
 pub mod AnchorLaws
-pub mod PartLaws
 pub mod SideLaws
-pub mod RuleLaws
-pub mod SummaryLaws
 pub mod GatherLaws
 pub mod GatheredLaws

@@ -13,7 +13,7 @@ use Rattle.meaning.specs.Shapes.{keep, Sides, kindAt, isBasic, isComplement}
 use Rattle.counterexample.specs.Counter.{Asked, leftLeaves, rightLeaves}
 use Rattle.shapes.specs.Gathered.{notEmpty}
 use Rattle.shapes.specs.Arrays.{entryOf, onSide, wants, picked}
-use Rattle.shapes.specs.Summary.{pickedOutside, pickedLeft, pickedRight}
+use Rattle.shapes.specs.Arrays.{pickedOutside, pickedLeft, pickedRight}
 use Rattle.counterexample.proofs.Lists.{keep-cases}
 use Rattle.counterexample.proofs.Moved.{leaf, under, plain, turned}
 use Rattle.shapes.proofs.LeafKinds.{outsideLeaves}

@@ -14,11 +14,12 @@ use Rattle.meaning.specs.File.{File}
 use Rattle.meaning.specs.Sets.{allBelow}
 use Rattle.meaning.specs.Shapes.{keep, Sides, isComplement, isLiteral, literalKind, complements, others, movedLeft, movedRight, bracket}
 use Rattle.meaning.specs.Shapes.{used, ofLiterals, ofClauses, ofStates, permitted, mixed, shape₄}
-use Rattle.shapes.specs.declared.sorts.Flags.{Flags}
-use Rattle.shapes.specs.Summary.{clausesBy, statesBy, pairBy, literalsOf}
+use Rattle.kinds.specs.declared.Flags.{Flags}
+use Rattle.kinds.specs.Summary.{clausesBy, statesBy, pairBy}
+use Rattle.parts.specs.Written.{literalsOf}
 use Rattle.meaning.proofs.Below.{all-at}
 use Rattle.shapes.proofs.LeafKinds.{literal-basic}
-use Rattle.shapes.proofs.PartLaws.{four-tests}
+use Rattle.parts.proofs.PartLaws.{four-tests}
 use Rattle.shapes.proofs.KindLaws.{hit, member-append}
 
 -- the kinds on the left and on the right as flags

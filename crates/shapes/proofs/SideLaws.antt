@@ -6,10 +6,11 @@ use native.Mathlib.Omega.{arith}
 use mathlib.Core.Bool.{Bool, true, false, not}
 use mathlib.Core.List.{List}
 use Rattle.meaning.specs.File.{File}
-use Rattle.shapes.specs.declared.parts.Parts.{Parts}
+use Rattle.parts.specs.declared.Parts.{Parts}
 use Rattle.trees.specs.Trees.{listOf}
 use Rattle.shapes.specs.Arrays.{picked, Put}
-use Rattle.shapes.specs.Summary.{SoundParts, sidesIn, pickedOutside, pickedLeft, pickedRight, Filled}
+use Rattle.parts.specs.Written.{SoundParts, sidesIn}
+use Rattle.shapes.specs.Arrays.{pickedOutside, pickedLeft, pickedRight, Filled}
 use Rattle.shapes.proofs.ArrayLaws.{put-append, put-bounds}
 
 pub filled-by : (f : File) (index : List ℕ) (h : Bool) (p : Parts) → SoundParts p

@@ -12,8 +12,8 @@ use Rattle.task.specs.Reach.{member}
 use Rattle.task.proofs.Tests.{and-left, and-right, and-both, or-left, or-right, or-cases, never, holds}
 use Rattle.meaning.specs.File.{File}
 use Rattle.meaning.specs.Shapes.{keep, isComplement, literalKind, others, complements, movedLeft, movedRight, bracket}
-use Rattle.shapes.specs.declared.sorts.Flags.{Flags}
-use Rattle.shapes.specs.Summary.{clausesBy, statesBy, pairBy}
+use Rattle.kinds.specs.declared.Flags.{Flags}
+use Rattle.kinds.specs.Summary.{clausesBy, statesBy, pairBy}
 use Rattle.trees.proofs.TreeLaws.{keep-short}
 use Rattle.shapes.proofs.KindLaws.{hit}
 use Rattle.shapes.proofs.ShapeLaws.{pairSides}

@@ -7,9 +7,10 @@ use mathlib.Core.List.{List, _++_, map}
 use lib.ListN.{length, getD}
 use lib.Dec.{eqb}
 use Rattle.meaning.specs.File.{File}
-use Rattle.meaning.specs.Shapes.{keep, kindAt, child, isComplement}
+use Rattle.meaning.specs.Shapes.{keep, Sides, kindAt, child, isComplement}
 use Rattle.counterexample.specs.Counter.{Asked}
 use Rattle.leaves.specs.Leaves.{leavesIn}
+use Rattle.kinds.specs.declared.Counts.{Counts}
 use Rattle.shapes.specs.Gathered.{leafOf}
 
 module _ (f : File) (turned : Bool) where
@@ -40,3 +41,23 @@ pub record Put (index : List ℕ) (f : File) (xs : List Asked) (from : ℕ) (was
   pub written : leavesIn is r ≡ leavesIn was from ++ map (leafOf index f) xs
   pub rest : (j : ℕ) → r ≤ j → getD is j 0 ≡ getD was j 0
   pub kept : length is ≡ length was
+
+module _ (f : File) where
+  -- left ones outside the bracket; all left ones; right ones
+  unfoldable pub pickedOutside : Bool → Sides → List Asked
+  pickedOutside h x = picked f false true h (x .outer) ++ picked f true true h (x .right)
+
+  unfoldable pub pickedLeft : Bool → Sides → List Asked
+  pickedLeft h x = pickedOutside h x ++ picked f false true (not h) (x .inner)
+
+  unfoldable pub pickedRight : Bool → Sides → List Asked
+  pickedRight h x = picked f false false h (x .right) ++ picked f true false h (x .outer)
+
+  pub record Filled (index : List ℕ) (h : Bool) (x : Sides) (left₀ left right₀ right : List ℕ) (n : Counts) : Type 0 where
+    pub outside : n .outside ≡ length (pickedOutside h x)
+    pub on-left : Put index f (pickedLeft h x) 0 left₀ left (n .left)
+    pub on-right : Put index f (pickedRight h x) 0 right₀ right (n .right)
+    pub few : (n .outside ≤ n .left) × (n .left ≤ 24) × (n .right ≤ 16)
+
+abbrev pub Zeros : List ℕ → Type 0
+Zeros xs = (i : ℕ) → getD xs i 0 ≡ 0

@@ -1,32 +1,20 @@
 // The shapes of basic statements on state sets, rules 1 to 4: their leaves are gathered, and told whether they are permitted.
 use crate::arrays::put;
-use crate::parts::Parts;
-use crate::parts::literals;
-use crate::parts::parts_of;
-use crate::sorts::Counts;
-use crate::sorts::summary;
 use certificate::Index;
+use kinds::Counts;
+use kinds::Gathered;
+use kinds::summary;
+use parts::Parts;
+use parts::literals;
+use parts::parts_of;
 ghost use mathlib.Core.Path.{_≡_};
 ghost use Prim.Native.Nat.{_≤_};
 ghost use mathlib.Core.Bool.{true, false};
 ghost use Rattle.certificate.specs.Known.{Known, decoded};
-ghost use Rattle.shapes.specs.Gathered.{shapeOf, Gathers};
-ghost use Rattle.shapes.specs.Summary.{SoundParts, sidesIn, Filled, Zeros};
-
-// What is known of a statement once its leaves stand in the two arrays.
-pub struct Gathered {
-    pub permitted: bool,
-    // Some leaf is explicit; else all are of clauses.
-    pub listed: bool,
-    // A left leaf is two-literal.
-    pub two: bool,
-    pub left_count: u32,
-    pub right_count: u32,
-    // The left leaf whose states are listed, where one is explicit.
-    pub anchor: u32,
-    // The action set of rules 2 and 3.
-    pub actions: u16,
-}
+ghost use Rattle.parts.specs.Written.{shapeOf};
+ghost use Rattle.shapes.specs.Gathered.{Gathers};
+ghost use Rattle.parts.specs.Written.{SoundParts, sidesIn};
+ghost use Rattle.shapes.specs.Arrays.{Filled, Zeros};
 
 // Writes the leaves, complements on the other side. On the right those of kind 0 are left out.
 fn fill(
