@@ -1,7 +1,6 @@
 // The file as it stands in memory: the places of its parts, and its entries and steps as values.
 use task::Ends;
 
-pub mod lookup;
 pub mod views;
 
 // The table of the entries' places: those of the action sets at 0 to 255, those of the state sets at 256 to 767, and 0 where there

@@ -100,7 +100,7 @@ fn actions_of(h: Head) -> ActionEntry
 }
 
 // The state set that stands at a place.
-pub(crate) fn state_entry(file: &[u8], at: u16) -> StateEntry
+pub fn state_entry(file: &[u8], at: u16) -> StateEntry
     requires { ⌜ at + 7 ≤ length (now file) ⌝ }
     ensures { λ r. ⌜ r ≡ stateEntryAt (now (file .entry)) at ⌝ }
 {
@@ -108,7 +108,7 @@ pub(crate) fn state_entry(file: &[u8], at: u16) -> StateEntry
 }
 
 // The action set that stands at a place.
-pub(crate) fn action_entry(file: &[u8], at: u16) -> ActionEntry
+pub fn action_entry(file: &[u8], at: u16) -> ActionEntry
     requires { ⌜ at + 7 ≤ length (now file) ⌝ }
     ensures { λ r. ⌜ r ≡ actionEntryAt (now (file .entry)) at ⌝ }
 {
@@ -141,7 +141,7 @@ fn is_clean(kind: u8, a: u16, b: u16) -> bool
 }
 
 // The step whose first byte is at a place, within the file.
-pub(crate) fn step_in(file: &[u8], at: u32) -> Step
+pub fn step_in(file: &[u8], at: u32) -> Step
     requires { ⌜ at + 12 ≤ length (now file) ⌝ }
     ensures { λ r. ⌜ r ≡ stepOf (stepRead (now (file .entry)) at) ⌝ }
 {
@@ -166,7 +166,7 @@ pub(crate) fn step_in(file: &[u8], at: u32) -> Step
 }
 
 // The action with a number.
-pub(crate) fn action_at(file: &[u8], i: u16) -> Action
+pub fn action_at(file: &[u8], i: u16) -> Action
     ensures { λ r. ⌜ r ≡ actionIn (now (file .entry)) (24 + 24 * i) ⌝ }
 {
     let p = 24 + 24 * i as usize;

@@ -5,7 +5,7 @@ use certificate::Index;
 use certificate::Judgement;
 use certificate::StateEntry;
 use certificate::StepReply;
-use certificate::lookup::state_set;
+use lookup::state_set;
 use numbers::RuleNumber;
 use patterns::both;
 use patterns::is_complement;

@@ -21,7 +21,7 @@ use Rattle.meaning.proofs.Order.{all-at}
 use Rattle.certificate.proofs.KnownLaws.{read-file, placed-steps}
 use Rattle.meaning.specs.Step.{entriesFit, wellFormed}
 use Rattle.numbers.specs.Numbers.{premisesOf, judgementKindOf}
-use Rattle.numbers.proofs.Packed.{kind-bound}
+use Rattle.numbers.proofs.TwoBits.{kind-bound}
 use Rattle.rules.specs.Derives.{kindSaid}
 use Rattle.derivation.specs.Formed.{placeFits, entriesIn, formedUnder, formed, IsStep}
 use Rattle.rules.proofs.RuleLaws.{and-assoc, and-true, and-false, and-comm}

@@ -20,7 +20,7 @@ use Rattle.meaning.specs.Match.{Letters, _then_, noLetters, matchStep, matchPre
 use Rattle.meaning.specs.Step.{Check, derivation, judgementKind, premiseCount, allRules, ruleAt, entriesFit, wellFormed, checkBy}
 use Rattle.meaning.specs.Step.{checkStep}
 use Rattle.numbers.specs.Numbers.{ruleTable, premisesOf, judgementKindOf}
-use Rattle.numbers.proofs.Packed.{kind-bound}
+use Rattle.numbers.proofs.TwoBits.{kind-bound}
 use Rattle.rules.specs.Derives.{isSome, derives, ruleNumbered}
 use Rattle.derivation.specs.Formed.{formedUnder, formed}
 use Rattle.numbers.specs.declared.RuleNumber.{RuleNumber}

@@ -4,7 +4,7 @@ use certificate::Judgement;
 use certificate::Places;
 use certificate::Step;
 use certificate::StepReply;
-use certificate::lookup::judgement;
+use lookup::judgement;
 use numbers::RuleNumber;
 ghost use mathlib.Core.Path.{_≡_};
 ghost use Prim.Native.Nat.{ℕ, _≤_};

@@ -23,7 +23,7 @@ use Rattle.meaning.specs.Writing.{FitsAction}
 use Rattle.meaning.proofs.Order as order
 use Rattle.counterexample.specs.Counter.{Asked}
 use Rattle.leaves.specs.declared.Leaf.{Leaf}
-use Rattle.leaves.specs.Leaves.{kindOf, unpacked, setOf, leafIn, leavesIn}
+use Rattle.leaves.specs.Leaves.{kindOf, wordLeaf, setOf, leafIn, leavesIn}
 use Rattle.leaves.specs.Holds.{Orderly}
 use Rattle.leaves.specs.Lists.{Each}
 use Rattle.leaves.proofs.ListLaws.{each-at}
@@ -151,7 +151,7 @@ module _ (bytes : List ℕ) (index : List ℕ) (k : Known bytes index) where
   unfolding leavesIn
   leaves-room leaves m xs e n =
       let l : min m (length leaves) ≡ length xs =
-      sym (length-take m leaves) ∙ sym (length-map (take m leaves) unpacked) ∙ ap length e ∙ length-map xs (leafOf index f) in
+      sym (length-take m leaves) ∙ sym (length-map (take m leaves) wordLeaf) ∙ ap length e ∙ length-map xs (leafOf index f) in
       omega arith
 
   -- ---- a statement

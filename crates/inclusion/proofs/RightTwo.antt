@@ -13,7 +13,7 @@ use Rattle.task.specs.declared.Action.{Action}
 use Rattle.task.specs.declared.Ends.{Ends}
 use Rattle.counterexample.specs.Counter.{seen}
 use Rattle.leaves.specs.declared.Leaf.{Leaf}
-use Rattle.leaves.specs.Leaves.{basicOf, unpacked, leafIn, leavesIn}
+use Rattle.leaves.specs.Leaves.{basicOf, wordLeaf, leafIn, leavesIn}
 use Rattle.leaves.specs.Holds.{setHolds}
 use Rattle.leaves.specs.Lists.{Each, leafHolds, Countered}
 use Rattle.leaves.proofs.ListLaws.{each-at, each-of}
@@ -21,24 +21,24 @@ use Rattle.propagation.specs.Clauses.{Unlisted}
 
 module _ (right : List ℕ) (r : ℕ) (few : r ≤ 2) (room : 2 ≤ length right) (no-more : (j : ℕ) → r ≤ j → getD right j 0 ≡ 0) where
   -- what is so of the leaf that 0 stands for is so of both where it is so of the first r
-  pub both : (P : Leaf → Type 0) → P (unpacked 0) → Each P (leavesIn right r) → Each P (leavesIn right 2)
+  pub both : (P : Leaf → Type 0) → P (wordLeaf 0) → Each P (leavesIn right r) → Each P (leavesIn right 2)
   unfolding leafIn
   both P none h =
       each-of P right 2 room (λ j l. elim (decLt j r) [
         | yes m ↦ each-at P right r (omega arith) h j m
-        | no m ↦ subst (λ (w : ℕ). P (unpacked w)) (sym (no-more j (omega arith))) none
+        | no m ↦ subst (λ (w : ℕ). P (wordLeaf w)) (sym (no-more j (omega arith))) none
       ])
 
   pub first : (P : Leaf → Type 0) → Each P (leavesIn right 2) → Each P (leavesIn right r)
   first P h = each-of P right r (omega arith) (λ j l. each-at P right 2 room h j (omega arith))
 
   pub unlisted-both : Each Unlisted (leavesIn right r) → Each Unlisted (leavesIn right 2)
-  unfolding unpacked basicOf
+  unfolding wordLeaf basicOf
   unlisted-both = both Unlisted tt
 
   pub countered-both : (bytes : List ℕ) (ends : Ends) (a : Action) (left : List Leaf)
       → Countered bytes ends a left (leavesIn right 2) ↔ Countered bytes ends a left (leavesIn right r)
-  unfolding unpacked basicOf leafHolds setHolds
+  unfolding wordLeaf basicOf leafHolds setHolds
   countered-both bytes ends a left = (
     (λ w. record {
       state = w .state;

@@ -1,3 +1,3 @@
-pub mod PackLaws
+pub mod WordLaws
 pub mod ListLaws
 pub mod KnownLeaves

@@ -8,7 +8,7 @@ use native.Mathlib.Omega.{arith}
 use mathlib.Core.List.{List, [], _∷_, map}
 use lib.ListN.{length, getD, take}
 use Rattle.leaves.specs.declared.Leaf.{Leaf}
-use Rattle.leaves.specs.Leaves.{unpacked, leafIn, leavesIn}
+use Rattle.leaves.specs.Leaves.{wordLeaf, leafIn, leavesIn}
 use Rattle.leaves.specs.Lists.{Each}
 
 module _ (P : Leaf → Type 0) where

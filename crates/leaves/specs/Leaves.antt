@@ -43,18 +43,18 @@ unfoldable pub flag : Bool → ℕ
 flag true = 1
 flag false = 0
 
-unfoldable pub unpacked : ℕ → Leaf
-unpacked w = record {
+unfoldable pub wordLeaf : ℕ → Leaf
+wordLeaf w = record {
   set = basicOf (w / 72057594037927936) (record { at = w % 4294967296; count = w / 4294967296 % 65536 });
   after = eqb (w / 281474976710656 % 2) 1;
 }
 
 -- leaf j of an array; past the array the empty set. And its first m leaves
 unfoldable pub leafIn : List ℕ → ℕ → Leaf
-leafIn leaves j = unpacked (getD leaves j 0)
+leafIn leaves j = wordLeaf (getD leaves j 0)
 
 unfoldable pub leavesIn : List ℕ → ℕ → List Leaf
-leavesIn leaves m = map unpacked (take m leaves)
+leavesIn leaves m = map wordLeaf (take m leaves)
 
 -- ---- an entry of a file as a leaf's set: itself where it is basic, else the empty set
 

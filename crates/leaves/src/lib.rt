@@ -5,7 +5,7 @@ use certificate::Span;
 ghost use mathlib.Core.Path.{_≡_};
 ghost use Prim.Native.Nat.{_+_, _*_, _<_};
 ghost use lib.ListN.{length};
-ghost use Rattle.leaves.specs.Leaves.{kindOf, itemsOf, basicOf, flag, unpacked, leafIn};
+ghost use Rattle.leaves.specs.Leaves.{kindOf, itemsOf, basicOf, flag, wordLeaf, leafIn};
 
 // A state set, and whether it is asked about the state after the action or about the one before it.
 pub struct Leaf {
@@ -70,8 +70,8 @@ fn flag(b: bool) -> u64
 }
 
 // A leaf as a word: from the top its kind, the state it is asked about, the count and the place of its items.
-pub fn packed(x: Leaf) -> u64
-    ensures { λ r. ⌜ unpacked r ≡ x ⌝ }
+pub fn word_of(x: Leaf) -> u64
+    ensures { λ r. ⌜ wordLeaf r ≡ x ⌝ }
 {
     let set = x.set;
     let s = items_of(set);
@@ -85,7 +85,7 @@ pub fn packed(x: Leaf) -> u64
 
 // The leaf that a word holds.
 fn leaf_of(word: u64) -> Leaf
-    ensures { λ r. ⌜ r ≡ unpacked word ⌝ }
+    ensures { λ r. ⌜ r ≡ wordLeaf word ⌝ }
 {
     let s = Span {
         at: (word % 4294967296) as u32,

@@ -13,7 +13,7 @@ use Rattle.meaning.specs.Shapes.{keep}
 use Rattle.counterexample.specs.Counter.{Asked}
 use Rattle.leaves.specs.declared.Leaf.{Leaf}
 use Rattle.certificate.specs.declared.BasicEntry.{BasicEntry}
-use Rattle.leaves.specs.Leaves.{unpacked, leavesIn, setOf}
+use Rattle.leaves.specs.Leaves.{wordLeaf, leavesIn, setOf}
 use Rattle.trees.specs.declared.Leaves.{Leaves}
 use Rattle.trees.specs.Trees.{listOf, Sound}
 use Rattle.shapes.specs.Gathered.{leafOf}
@@ -27,7 +27,7 @@ module _ (index : List ℕ) (f : File) where
 
   -- one leaf
   pub put-one : (e : ℕ) (h : Bool) (b : BasicEntry) (n w : ℕ) (out : List ℕ) → Room out n 1
-      → unpacked w ≡ record { set = b; after = h } → b ≡ setOf index f e
+      → wordLeaf w ≡ record { set = b; after = h } → b ≡ setOf index f e
       → Put index f (record { entry = e; after = h } ∷ []) n out (set out n w) (n + 1)
   unfolding leavesIn leafOf
   put-one e h b n w out r q p =
@@ -35,8 +35,8 @@ module _ (index : List ℕ) (f : File) where
       record {
         count = refl;
         written =
-            ap (map unpacked) more ∙ map-append unpacked (take n out) (w ∷ [])
-            ∙ ap (λ (y : Leaf). map unpacked (take n out) ++ y ∷ []) (q ∙ (λ i. record { set = p i; after = h }));
+            ap (map wordLeaf) more ∙ map-append wordLeaf (take n out) (w ∷ [])
+            ∙ ap (λ (y : Leaf). map wordLeaf (take n out) ++ y ∷ []) (q ∙ (λ i. record { set = p i; after = h }));
         rest = λ j g. getD-set-other out n j w 0 (λ z. omega arith);
         kept = length-set out n w;
       }

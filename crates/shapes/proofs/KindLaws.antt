@@ -25,7 +25,7 @@ use Rattle.certificate.proofs.StateEntry.{the-type}
 use Rattle.certificate.specs.Views.{viewOf}
 use Rattle.certificate.specs.Index.{statePlace}
 use Rattle.leaves.specs.declared.Leaf.{Leaf}
-use Rattle.leaves.specs.Leaves.{kindOf, unpacked, leafIn, leavesIn, basicIn, setOf}
+use Rattle.leaves.specs.Leaves.{kindOf, wordLeaf, leafIn, leavesIn, basicIn, setOf}
 use Rattle.trees.proofs.NodeLaws.{basic-kind}
 use Rattle.shapes.specs.Gathered.{leafOf, AllBasic, kindsOf}
 use Rattle.kinds.specs.Summary.{mayAnchor}
@@ -109,9 +109,9 @@ module _ (index : List ℕ) (f : File) where
     leaf-at d j l =
         let e : Leaf = leafOf index f d in
         let n : length (take r is) ≡ length xs =
-        sym (length-map (take r is) unpacked) ∙ ap length put-leaves ∙ length-map xs (leafOf index f) in
+        sym (length-map (take r is) wordLeaf) ∙ ap length put-leaves ∙ length-map xs (leafOf index f) in
         let m = put-length in
-        ap unpacked (sym (getD-take r is j 0 l)) ∙ sym (getD-mapped unpacked (take r is) j 0 e (omega arith))
+        ap wordLeaf (sym (getD-take r is j 0 l)) ∙ sym (getD-mapped wordLeaf (take r is) j 0 e (omega arith))
         ∙ ap (λ (ys : List Leaf). getD ys j e) put-leaves ∙ getD-mapped (leafOf index f) xs j d e (omega arith)
 
     pub kind-at : AllBasic f xs → (d : Asked) (j : ℕ) → j < r → kindOf (leafIn is j .set) ≡ getD (kindsOf f xs) j 0

@@ -2,9 +2,9 @@
 use certificate::BasicEntry;
 use certificate::Index;
 use certificate::StateEntry;
-use certificate::lookup::state_set;
 use leaves::Leaf;
-use leaves::packed;
+use leaves::word_of;
+use lookup::state_set;
 use trees::Leaves;
 use trees::has_kind;
 use trees::node_at;
@@ -33,7 +33,7 @@ fn put_leaf(file: &[u8], index: &Index, e: u16, after: bool, out: &mut [u64], n:
         (record { entry = e; after = after } ∷ []) n (now (out .entry)) (now (out .exit)) r ⌝ }
 {
     let set = basic_in(state_set(file, index, e));
-    out[n as usize] = packed(Leaf { set, after });
+    out[n as usize] = word_of(Leaf { set, after });
     n + 1
 }
 

@@ -1,8 +1,8 @@
 // Entries by their numbers, and lists of few entries: the leaves of a tree, those of a kind, and tests of all.
 use certificate::Index;
 use certificate::StateEntry;
-use certificate::lookup::state_set;
 use leaves::kind_of;
+use lookup::state_set;
 ghost use mathlib.Core.Path.{_≡_};
 ghost use mathlib.Core.Bool.{_||_};
 ghost use mathlib.Core.List.{[], _∷_, _++_};

@@ -1,7 +1,7 @@
 -- `leaves::basic_of` meets its contract: each arm is the table's element at its kind; what is left is 0 or past the table.
 -- Assumes nothing.
 use Rattle.leaves.specs.Leaves.{basicOf}
-use Rattle.leaves.proofs.PackLaws.{basic-left}
+use Rattle.leaves.proofs.WordLaws.{basic-left}
 use Rattle.leaves.proofs.basic_of.Statement.{statement}
 use Rattle.leaves.proofs.basic_of.Tie as tie
 

@@ -3,12 +3,12 @@
 use Prim.Native.Nat.{_/_, _%_}
 use lib.Dec.{eqb}
 use borrow.Author.Needs.{needs}
-use Rattle.leaves.specs.Leaves.{unpacked}
+use Rattle.leaves.specs.Leaves.{wordLeaf}
 use Rattle.leaves.proofs.leaf_of.Statement.{statement}
 use Rattle.leaves.proofs.leaf_of.Tie as tie
 
 returns : tie.Need-returns
-unfolding unpacked
+unfolding wordLeaf
 returns c = λ i. record { set = c .basic-of .ensures i; after = eqb (c .before .args .word / 281474976710656 % 2) 1 }
 
 pub leaf-of-spec : {M : Type 1} → statement M

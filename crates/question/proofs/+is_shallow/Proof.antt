@@ -16,7 +16,7 @@ use Rattle.question.proofs.AskLaws.{seen, shallow-at}
 use Rattle.question.proofs.is_shallow.Reads as is-shallow
 use Rattle.question.proofs.is_shallow.Kinds as is-shallow-kinds
 use Rattle.question.proofs.+is_shallow.Lts-is_shallow as is-shallow-lts
-use Rattle.certificate.proofs.lookup.state_set.Reads as state-set-reads
+use Rattle.lookup.proofs.state_set.Reads as state-set-reads
 use Rattle.question.proofs.+is_shallow.{statement}
 use Rattle.question.proofs.+is_shallow.Tie.{close}
 

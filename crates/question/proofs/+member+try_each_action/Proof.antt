@@ -27,9 +27,9 @@ use Rattle.question.proofs.+member+try_each_action.Lts-member as member
 use Rattle.question.proofs.try_each_action.Reads as try-each-action
 use Rattle.question.proofs.try_each_action.Kinds as try-each-action-kinds
 use Rattle.question.proofs.+member+try_each_action.Lts-try_each_action as try-each-action-lts
-use Rattle.certificate.proofs.lookup.action.Reads as action-reads
-use Rattle.certificate.proofs.lookup.action_count.Reads as action-count-reads
-use Rattle.certificate.proofs.lookup.state_set.Reads as state-set-reads
+use Rattle.lookup.proofs.action.Reads as action-reads
+use Rattle.lookup.proofs.action_count.Reads as action-count-reads
+use Rattle.lookup.proofs.state_set.Reads as state-set-reads
 use Rattle.actions.proofs.action_marks.Reads as action-marks-reads
 use Rattle.listed.proofs.set_holds.Reads as set-holds-reads
 use Rattle.actions.proofs.marks.is_marked.Reads as is-marked-reads

@@ -12,7 +12,7 @@ unfolding setOf
 returns c =
     let s = c .before .before .before .before .before in
     let set = c .before .basic-in .ensures ∙ ap basicIn (c .before .before .state-set .ensures) in
-    put-one _ _ _ _ _ _ _ _ (s .pre .1) (c .packed .ensures) set
+    put-one _ _ _ _ _ _ _ _ (s .pre .1) (c .word-of .ensures) set
 
 pub put-leaf-spec : {M : Type 1} → statement M
 put-leaf-spec =

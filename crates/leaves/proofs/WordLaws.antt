@@ -12,7 +12,7 @@ use Rattle.certificate.specs.declared.BasicEntry.{BasicEntry}
 use Rattle.certificate.specs.declared.BasicEntry.the-variants.{Empty, Init, Goal, Explicit, Horn, TwoCnf}
 use Rattle.certificate.proofs.TableLaws.{NoneOf, past-or-first}
 use Rattle.leaves.specs.declared.Leaf.{Leaf}
-use Rattle.leaves.specs.Leaves.{kindOf, itemsOf, basicOf, flag, unpacked}
+use Rattle.leaves.specs.Leaves.{kindOf, itemsOf, basicOf, flag, wordLeaf}
 
 -- what is left over of the kinds is 0 or past the table
 pub basic-left : (k : ℕ) (s : Span) → NoneOf 1 5 k → Empty ≡ basicOf k s
@@ -53,12 +53,12 @@ low-part q c l = omega arith
 low-bit : (q c : ℕ) → c ≤ 1 → (q * 2 + c) % 2 ≡ c
 low-bit q c l = omega arith
 
-pub unpacked-is : (x : Leaf) (w : ℕ)
+pub word-leaf : (x : Leaf) (w : ℕ)
     → w ≡ kindOf (x .set) * 72057594037927936 + flag (x .after) * 281474976710656 + itemsOf (x .set) .count * 4294967296 + itemsOf
     (x .set) .at
-    → itemsOf (x .set) .count < 65536 → itemsOf (x .set) .at < 4294967296 → unpacked w ≡ x
-unfolding unpacked
-unpacked-is x w e few low = λ i.
+    → itemsOf (x .set) .count < 65536 → itemsOf (x .set) .at < 4294967296 → wordLeaf w ≡ x
+unfolding wordLeaf
+word-leaf x w e few low = λ i.
     let k = kind-le (x .set) in
     let b = flag-le (x .after) in
     let kind : w / 72057594037927936 ≡ kindOf (x .set) = omega arith in

@@ -2,9 +2,9 @@
 -- Assumes nothing.
 use mathlib.Core.Path.{sym, ap, _∙_}
 use borrow.Author.Needs.{needs}
 use Rattle.certificate.proofs.KnownLaws.{known-actions-here, known-actions-none, known-actions-room}
-use Rattle.certificate.proofs.lookup.action_set.Statement.{statement}
-use Rattle.certificate.proofs.lookup.action_set.Tie as tie
+use Rattle.lookup.proofs.action_set.Statement.{statement}
+use Rattle.lookup.proofs.action_set.Tie as tie
 
 returns : tie.Need-returns
 returns c =

@@ -1,13 +1,13 @@
--- `leaves::packed` meets its contract: no part of the word reaches into another.
+-- `leaves::word_of` meets its contract: no part of the word reaches into another.
 -- Assumes nothing.
 use mathlib.Core.Path.{_≡_, ap, _∙_}
 use Prim.Native.Nat.{_≤_}
 use native.Mathlib.Omega.{arith}
 use Rattle.certificate.specs.declared.Span.{Span}
 use borrow.Author.Needs.{needs}
-use Rattle.leaves.proofs.PackLaws.{kind-le, flag-le, unpacked-is}
-use Rattle.leaves.proofs.packed.Statement.{statement}
-use Rattle.leaves.proofs.packed.Tie as tie
+use Rattle.leaves.proofs.WordLaws.{kind-le, flag-le, word-leaf}
+use Rattle.leaves.proofs.word_of.Statement.{statement}
+use Rattle.leaves.proofs.word_of.Tie as tie
 
 mul-result-2 : tie.Need-mul-result-2
 mul-result-2 c = let b = flag-le (c .before .before .before .args .x .after) in let e = c .flag .ensures in omega arith
@@ -47,10 +47,10 @@ returns c =
     let i = c .before .before .before .before .items-of .ensures in
     let many = ap (λ (q : Span). q .count) i in
     let place = ap (λ (q : Span). q .at) i in
-    unpacked-is s _ (omega arith) (omega arith) (omega arith)
+    word-leaf s _ (omega arith) (omega arith) (omega arith)
 
-pub packed-spec : {M : Type 1} → statement M
-packed-spec =
+pub word-of-spec : {M : Type 1} → statement M
+word-of-spec =
     tie.close
     (tie.spec
     (λ c κs. search needs)

@@ -2,11 +2,11 @@
 -- Assumes nothing.
 use mathlib.Core.Path.{ap, _∙_}
 use borrow.Author.Needs.{needs}
 use Rattle.certificate.specs.declared.Step as code
 use Rattle.certificate.specs.Views.{stepOf, judgementAt}
 use Rattle.certificate.proofs.KnownLaws.{placed-no-step}
-use Rattle.certificate.proofs.lookup.judgement.Statement.{statement}
-use Rattle.certificate.proofs.lookup.judgement.Tie as tie
+use Rattle.lookup.proofs.judgement.Statement.{statement}
+use Rattle.lookup.proofs.judgement.Tie as tie
 
 returns : tie.Need-returns
 returns c = let s = c .before .before .before in placed-no-step _ _ (s .pre) (s .args .k) (c .if1 .taken)

@@ -2,9 +2,9 @@
 -- Assumes nothing.
 use mathlib.Core.Path.{_∙_}
 use borrow.Author.Needs.{needs}
 use Rattle.certificate.proofs.KnownLaws.{read-action-count}
-use Rattle.certificate.proofs.lookup.action_count.Statement.{statement}
-use Rattle.certificate.proofs.lookup.action_count.Tie as tie
+use Rattle.lookup.proofs.action_count.Statement.{statement}
+use Rattle.lookup.proofs.action_count.Tie as tie
 
 returns : tie.Need-returns
 returns c = c .u16-at .ensures ∙ read-action-count _ (c .before .before .pre)

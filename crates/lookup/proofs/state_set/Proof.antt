@@ -2,9 +2,9 @@
 -- Assumes nothing.
 use mathlib.Core.Path.{sym, ap, _∙_}
 use borrow.Author.Needs.{needs}
 use Rattle.certificate.proofs.KnownLaws.{known-state-here, known-state-none, known-state-room}
-use Rattle.certificate.proofs.lookup.state_set.Statement.{statement}
-use Rattle.certificate.proofs.lookup.state_set.Tie as tie
+use Rattle.lookup.proofs.state_set.Statement.{statement}
+use Rattle.lookup.proofs.state_set.Tie as tie
 
 returns : tie.Need-returns
 returns c =

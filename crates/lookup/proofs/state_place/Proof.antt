@@ -2,10 +2,10 @@
 -- Assumes nothing.
 use mathlib.Core.Path.{sym}
 use borrow.Author.Needs.{needs}
 use Rattle.certificate.specs.Index.{statePlace}
 use Rattle.certificate.proofs.IndexLaws.{in-part, past-part}
-use Rattle.certificate.proofs.lookup.state_place.Statement.{statement}
-use Rattle.certificate.proofs.lookup.state_place.Tie as tie
+use Rattle.lookup.proofs.state_place.Statement.{statement}
+use Rattle.lookup.proofs.state_place.Tie as tie
 
 returns : tie.Need-returns
 unfolding statePlace

@@ -15,10 +15,10 @@ unfolding ruleTable
 past n l = List·getD-eq-default ruleTable (0, 0) l
 
 -- what a rule carries, and 0 where there is none, where the word's two bits were read
-pub packed : (word : ℕ) (carried : RuleNumber → ℕ) → carried (0, 0) ≡ 0
+pub in-word : (word : ℕ) (carried : RuleNumber → ℕ) → carried (0, 0) ≡ 0
     → T (each (λ n. eqb (word / 2 ^ (2 * n) % 4) (carried (getD ruleTable n (0, 0)))) 29)
     → (n r : ℕ) → (n < 29 → r ≡ word / 2 ^ (2 * n) % 4) × (29 ≤ n → r ≡ 0) → r ≡ carried (getD ruleTable n (0, 0))
-packed word carried none t n r (below, above) =
+in-word word carried none t n r (below, above) =
     elim (decLt n 29) [
       | yes l ↦ below l ∙ eqb→eq _ _ (each-at (λ n. eqb (word / 2 ^ (2 * n) % 4) (carried (getD ruleTable n (0, 0)))) 29 n t l)
       | no l ↦ (let h : 29 ≤ n = omega arith in above h ∙ sym (ap carried (past n h) ∙ none))

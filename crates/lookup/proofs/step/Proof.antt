@@ -3,10 +3,10 @@
 use mathlib.Core.Path.{ap, _∙_}
 use native.Mathlib.Omega.{arith}
 use borrow.Author.Needs.{needs}
 use Rattle.certificate.specs.Views.{stepOf}
 use Rattle.certificate.proofs.KnownLaws.{placed-step, placed-fit}
-use Rattle.certificate.proofs.lookup.step.Statement.{statement}
-use Rattle.certificate.proofs.lookup.step.Tie as tie
+use Rattle.lookup.proofs.step.Statement.{statement}
+use Rattle.lookup.proofs.step.Tie as tie
 
 add-p : tie.Need-add-p
 add-p c = let h = placed-fit _ _ (c .before .before .pre .0) in omega arith

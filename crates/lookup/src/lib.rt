@@ -1,26 +1,26 @@
 // Entries, actions and steps of a file whose layout was checked, each as the file that was read has it. A number that names none gives what
 // the definitions have there.
-use crate::ActionEntry;
-use crate::BasicEntry;
-use crate::Index;
-use crate::Judgement;
-use crate::Places;
-use crate::StateEntry;
-use crate::Step;
-use crate::views::action_at;
-use crate::views::action_entry;
-use crate::views::state_entry;
-use crate::views::step_in;
 use bytes::u16_at;
+use certificate::ActionEntry;
+use certificate::BasicEntry;
+use certificate::Index;
+use certificate::Judgement;
+use certificate::Places;
+use certificate::StateEntry;
+use certificate::Step;
+use certificate::views::action_at;
+use certificate::views::action_entry;
+use certificate::views::state_entry;
+use certificate::views::step_in;
 use task::Action;
 ghost use mathlib.Core.Path.{_≡_};
 ghost use Prim.Native.Nat.{_<_};
 ghost use lib.ListN.{length};
 ghost use Rattle.task.specs.Task.{actionAt};
 ghost use Rattle.meaning.specs.File.{actionSetAt, stateSetAt, stepAt};
 ghost use Rattle.certificate.specs.Views.{viewOf, viewOfActions, stepOf, judgementAt};
 ghost use Rattle.certificate.specs.Index.{statePlace, actionPlace};
 ghost use Rattle.certificate.specs.Known.{decoded, IsRead, Known, Placed};
 
 // The place of a state set; 0 where the number names none.
 fn state_place(index: &Index, e: u16) -> u16

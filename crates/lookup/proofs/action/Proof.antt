@@ -2,9 +2,9 @@
 -- Assumes nothing.
 use mathlib.Core.Path.{_∙_}
 use borrow.Author.Needs.{needs}
 use Rattle.certificate.proofs.KnownLaws.{read-action, read-no-action}
-use Rattle.certificate.proofs.lookup.action.Statement.{statement}
-use Rattle.certificate.proofs.lookup.action.Tie as tie
+use Rattle.lookup.proofs.action.Statement.{statement}
+use Rattle.lookup.proofs.action.Tie as tie
 
 returns : tie.Need-returns
 returns c =
