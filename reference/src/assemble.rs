@@ -1,10 +1,12 @@
-//! Reads the text form to a draft. Entries, actions and steps must be numbered in turn;
-//! apart from that any value that fits its field is taken, lawful or not.
+//! Reads the text form to a draft and the names it gives. Entries, actions and steps must be
+//! numbered in turn; apart from that any value that fits its field is taken, lawful or not.
+//! A name can be used from its line on.
 
 use std::ops::RangeInclusive;
 
 use crate::draft::{Draft, DraftActions, DraftSet};
 use crate::file::{Clause, Step};
+use crate::names::{fact_number, has_form, Names};
 use crate::rules;
 use crate::task::Action;
 
@@ -15,16 +17,21 @@ pub fn assemble(text: &str) -> Result<Vec<u8>, String> {
 
 /// The draft of a text.
 pub fn parse(text: &str) -> Result<Draft, String> {
-    let mut draft = Draft::default();
+    Ok(parse_named(text)?.0)
+}
+
+/// The draft of a text, and the names of its facts and actions.
+pub fn parse_named(text: &str) -> Result<(Draft, Names), String> {
+    let (mut draft, mut names) = (Draft::default(), Names::default());
     for (number, line) in text.lines().enumerate() {
         let line = line.split('#').next().unwrap_or("");
         let words = tokens(line);
         if !words.is_empty() {
-            let mut line = Line { words: &words, at: 0 };
+            let mut line = Line { words: &words, at: 0, names: &mut names };
             line.read(&mut draft).map_err(|why| format!("line {}: {why}", number + 1))?;
         }
     }
-    Ok(draft)
+    Ok((draft, names))
 }
 
 /// Words; brackets, braces and signs stand alone, but within parentheses a sign belongs
@@ -67,6 +74,8 @@ type Parsed<T> = Result<T, String>;
 struct Line<'a> {
     words: &'a [String],
     at: usize,
+    /// The names of this line and those before it.
+    names: &'a mut Names,
 }
 
 impl<'a> Line<'a> {
@@ -74,11 +83,12 @@ impl<'a> Line<'a> {
         match self.word()? {
             "version" => draft.version = self.number("version")?,
             "facts" => draft.facts = self.number("fact count")?,
+            "fact" => self.fact_name()?,
             "init" => draft.init = self.mask()?,
             "goal" => draft.goal = self.mask()?,
             "action" => {
-                self.in_turn(draft.actions.len())?;
-                draft.actions.push(self.action()?);
+                let number = self.in_turn(draft.actions.len())?;
+                draft.actions.push(self.action(number)?);
             }
             "actions" => {
                 self.in_turn(draft.action_sets.len())?;
@@ -126,20 +136,27 @@ impl<'a> Line<'a> {
         fitting.ok_or(format!("'{word}' is no {what}"))
     }
 
-    fn in_turn(&mut self, next: usize) -> Parsed<()> {
+    fn in_turn(&mut self, next: usize) -> Parsed<usize> {
         let number: usize = self.number("number")?;
         if number == next {
-            Ok(())
+            Ok(number)
         } else {
             Err(format!("number {next} is next, not {number}"))
         }
     }
 
+    fn fact_name(&mut self) -> Parsed<()> {
+        let (fact, name) = (fact_number(self.word()?)?, self.word()?);
+        self.names.name_fact(fact, name)
+    }
+
+    /// The bit of a fact, given by its number or name.
     fn fact(&self, word: &str) -> Parsed<u64> {
-        match word.parse::<u32>() {
-            Ok(fact) if fact < 64 => Ok(1 << fact),
-            _ => Err(format!("'{word}' is no fact below 64")),
-        }
+        let fact = match has_form(word) {
+            true => self.names.fact_named(word).ok_or(format!("no line above names a fact '{word}'"))?,
+            false => fact_number(word)?,
+        };
+        Ok(1 << fact)
     }
 
     /// A list of facts in braces, or a number.
@@ -157,7 +174,13 @@ impl<'a> Line<'a> {
         }
     }
 
-    fn action(&mut self) -> Parsed<Action> {
+    /// An action, its name first where it has one.
+    fn action(&mut self, number: usize) -> Parsed<Action> {
+        if self.peek() != Some("pre") {
+            let number = u16::try_from(number).map_err(|_| "an action above 65535 has no name")?;
+            let name = self.word()?;
+            self.names.name_action(number, name)?;
+        }
         self.expect("pre")?;
         let pre = self.mask()?;
         self.expect("add")?;
@@ -166,20 +189,28 @@ impl<'a> Line<'a> {
         Ok(Action { pre, add, del: self.mask()? })
     }
 
-    /// Numbers up to the end of the line.
-    fn numbers<T: TryFrom<u64>>(&mut self, what: &str) -> Parsed<Vec<T>> {
+    /// Actions up to the end of the line, given by their numbers or names.
+    fn actions(&mut self) -> Parsed<Vec<u16>> {
         let mut list = Vec::new();
-        while self.peek().is_some() {
-            list.push(self.number(what)?);
+        while let Some(word) = self.peek() {
+            if has_form(word) {
+                self.at += 1;
+                let action = self.names.action_named(word);
+                list.push(action.ok_or(format!("no line above names an action '{word}'"))?);
+            } else {
+                list.push(self.number("action number")?);
+            }
         }
         Ok(list)
     }
 
-    /// States up to the end of the line: numbers, and ranges `A..B` to which both ends belong.
+    /// States up to the end of the line: numbers, lists of facts, and ranges `A..B` to which
+    /// both ends belong.
     fn states(&mut self) -> Parsed<Vec<u64>> {
         let mut list = Vec::new();
         while let Some(word) = self.peek() {
             match word.split_once("..") {
+                None if word == "{" => list.push(self.mask()?),
                 None => list.push(self.number("state")?),
                 Some((first, last)) => {
                     self.at += 1;
@@ -193,7 +224,7 @@ impl<'a> Line<'a> {
     fn action_set(&mut self) -> Parsed<DraftActions> {
         match self.word()? {
             "all" => Ok(DraftActions::All),
-            "list" => Ok(DraftActions::List(self.numbers("action number")?)),
+            "list" => Ok(DraftActions::List(self.actions()?)),
             "=" => {
                 let a = self.number("entry number")?;
                 self.expect("+")?;

@@ -12,6 +12,7 @@ pub mod fault;
 pub mod file;
 pub mod generate;
 pub mod layout;
+pub mod named;
 pub mod names;
 pub mod pattern;
 pub mod question;

@@ -1,4 +1,4 @@
-//! The command line: check and ask, seeded cases and their replies, and the text form.
+//! The command line: check and ask, seeded cases and their replies, and the text form with names.
 
 use std::io::{self, BufWriter, Read, Write};
 use std::process::ExitCode;
@@ -6,10 +6,12 @@ use std::process::ExitCode;
 use reference::generate::limits::workload;
 use reference::generate::random::Random;
 use reference::generate::{cases, damaged, Case};
-use reference::{ask, assemble, check, cost, show};
+use reference::names::Names;
+use reference::{ask, assemble, check, cost, named, show};
 
 const USAGE: &str = "usage: reference check FILE | ask FILE ENTRY STATE | gen SEED COUNT | damaged FILE SEED COUNT | replies | pack | \
-assemble TEXTFILE | show FILE | cost FILE | workload NUMBER SEED   (FILE may be - for standard input)";
+assemble TEXTFILE | names TEXTFILE | show FILE [NAMES] | cost FILE | \
+workload NUMBER SEED   (FILE may be - for standard input)";
 
 /// What stops a command: a wrong call, or a message.
 enum Stop {
@@ -69,11 +71,16 @@ fn run(words: &[&str]) -> Result<(), Stop> {
             }
         }
         ["assemble", file] => {
-            let text = String::from_utf8(read(file)?);
-            let text = text.map_err(|_| Stop::Message("the text is not UTF-8".into()))?;
-            out.write_all(&assemble::assemble(&text).map_err(Stop::Message)?)?;
+            out.write_all(&assemble::assemble(&read_text(file)?).map_err(Stop::Message)?)?;
         }
-        ["show", file] => out.write_all(show::show(&read(file)?).as_bytes())?,
+        ["names", file] => {
+            let (_, names) = assemble::parse_named(&read_text(file)?).map_err(Stop::Message)?;
+            write!(out, "{names}")?;
+        }
+        ["show", file, rest @ ..] if rest.len() < 2 => {
+            let (bytes, names) = read_named(file, rest.first())?;
+            out.write_all(show::show_named(&bytes, &names).as_bytes())?;
+        }
         ["cost", file] => match cost::of(&read(file)?) {
             Err(fault) => writeln!(out, "refused {} {}", fault.number, fault.place)?,
             Ok(costs) => {
@@ -117,6 +124,15 @@ fn read(file: &str) -> Result<Vec<u8>, Stop> {
         return Ok(bytes);
     }
     std::fs::read(file).map_err(|error| Stop::Message(format!("{file}: {error}")))
+}
+
+fn read_text(file: &str) -> Result<String, Stop> {
+    String::from_utf8(read(file)?).map_err(|_| Stop::Message("the text is not UTF-8".into()))
+}
+
+/// A file's bytes, of a text too, and the names that belong to it.
+fn read_named(file: &str, names: Option<&&str>) -> Result<(Vec<u8>, Names), Stop> {
+    named::open(file, read(file)?, names.copied()).map_err(Stop::Message)
 }
 
 /// The cases on standard input, one a line.

@@ -1,15 +1,24 @@
-//! The readable text form of a file. `assemble` reads it back to the same bytes.
+//! The readable text form of a file. `assemble` reads it back to the same bytes and names.
 
 use std::fmt::Write;
 
 use crate::draft::{Draft, DraftActions, DraftSet};
 use crate::file::{Clause, Step};
+use crate::names::Names;
 use crate::words::describe;
 use crate::{layout, rules, steps};
+
+/// The most states of an explicit set that are written as lists of facts, where facts have names.
+const MOST_LISTED: usize = 8;
 
 /// The text of any bytes: the reply as a comment, then the file where its layout is
 /// lawful.
 pub fn show(bytes: &[u8]) -> String {
+    show_named(bytes, &Names::default())
+}
+
+/// The same with names for facts and actions.
+pub fn show_named(bytes: &[u8], names: &Names) -> String {
     let file = match layout::read(bytes) {
         Ok(file) => file,
         Err(fault) => return format!("# {}\n", describe(&fault, None)),
@@ -18,44 +27,54 @@ pub fn show(bytes: &[u8]) -> String {
         Ok(()) => "accepted".to_string(),
         Err(fault) => describe(&fault, file.steps.get(fault.place as usize)),
     };
-    format!("# {reply}\n{}", text(&Draft::of(&file)))
+    format!("# {reply}\n{}", text_named(&Draft::of(&file), names))
 }
 
 /// The text of a draft.
 pub fn text(draft: &Draft) -> String {
+    text_named(draft, &Names::default())
+}
+
+/// The same with names for facts and actions.
+pub fn text_named(draft: &Draft, names: &Names) -> String {
     let mut out = String::new();
     // Writing to a string cannot fail.
-    let _ = write_draft(&mut out, draft);
+    let _ = write_task(&mut out, draft, names);
+    let _ = write_certificate(&mut out, draft, names);
     out
 }
 
-fn write_draft(out: &mut String, draft: &Draft) -> std::fmt::Result {
+fn write_task(out: &mut String, draft: &Draft, names: &Names) -> std::fmt::Result {
     if draft.version != 1 {
         writeln!(out, "version {}", draft.version)?;
     }
     writeln!(out, "facts {}", draft.facts)?;
-    writeln!(out, "init {}", state(draft.init))?;
-    writeln!(out, "goal {}", mask(draft.goal))?;
-    for (a, action) in draft.actions.iter().enumerate() {
-        let [pre, add, del] = [mask(action.pre), mask(action.add), mask(action.del)];
-        writeln!(out, "action {a} pre {pre} add {add} del {del}")?;
+    for (fact, name) in &names.facts {
+        writeln!(out, "fact {fact} {name}")?;
     }
+    let init = if names.facts.is_empty() { state(draft.init) } else { names.facts_of(draft.init) };
+    writeln!(out, "init {init}")?;
+    writeln!(out, "goal {}", names.facts_of(draft.goal))?;
+    for (a, action) in draft.actions.iter().enumerate() {
+        let name = u16::try_from(a).ok().and_then(|a| names.actions.get(&a));
+        let name = name.map_or(String::new(), |name| format!(" {name}"));
+        let [pre, add, del] = [action.pre, action.add, action.del].map(|mask| names.facts_of(mask));
+        writeln!(out, "action {a}{name} pre {pre} add {add} del {del}")?;
+    }
+    Ok(())
+}
+
+fn write_certificate(out: &mut String, draft: &Draft, names: &Names) -> std::fmt::Result {
     for (e, set) in draft.action_sets.iter().enumerate() {
-        writeln!(out, "actions {e} {}", action_set(set))?;
+        writeln!(out, "actions {e} {}", action_set(set, names))?;
     }
     for (e, set) in draft.state_sets.iter().enumerate() {
-        writeln!(out, "set {e} {}", state_set(set))?;
+        writeln!(out, "set {e} {}", state_set(set, names))?;
     }
     for (s, step) in draft.steps.iter().enumerate() {
         writeln!(out, "step {s} {}", step_text(step))?;
     }
     Ok(())
-}
-
-/// A mask as the list of its facts, `{0 1}`.
-fn mask(mask: u64) -> String {
-    let facts = (0..64).filter(|f| mask >> f & 1 == 1);
-    format!("{{{}}}", joined(facts.map(|f| f.to_string())))
 }
 
 fn joined(items: impl Iterator<Item = String>) -> String {
@@ -67,22 +86,27 @@ fn listed(word: &str, items: impl Iterator<Item = String>) -> String {
     format!("{word} {}", joined(items)).trim_end().to_string()
 }
 
-fn action_set(set: &DraftActions) -> String {
+/// An action set without its number, `list close_charge 1`.
+pub fn action_set(set: &DraftActions, names: &Names) -> String {
     match set {
         DraftActions::All => "all".into(),
-        DraftActions::List(list) => listed("list", list.iter().map(|a| a.to_string())),
+        DraftActions::List(list) => listed("list", list.iter().map(|a| names.action(*a))),
         DraftActions::Union(a, b) => format!("= {a} + {b}"),
     }
 }
 
-fn state_set(set: &DraftSet) -> String {
+/// A state set without its number, `horn (+charge_closed -1)`.
+pub fn state_set(set: &DraftSet, names: &Names) -> String {
     match set {
         DraftSet::Empty => "empty".into(),
         DraftSet::Init => "init".into(),
         DraftSet::Goal => "goal".into(),
+        DraftSet::Explicit(states) if !names.facts.is_empty() && states.len() <= MOST_LISTED => {
+            listed("explicit", states.iter().map(|s| names.facts_of(*s)))
+        }
         DraftSet::Explicit(states) => listed("explicit", runs(states)),
-        DraftSet::Horn(clauses) => listed("horn", clauses.iter().map(clause)),
-        DraftSet::TwoCnf(clauses) => listed("twocnf", clauses.iter().map(clause)),
+        DraftSet::Horn(clauses) => listed("horn", clauses.iter().map(|c| clause(c, names))),
+        DraftSet::TwoCnf(clauses) => listed("twocnf", clauses.iter().map(|c| clause(c, names))),
         DraftSet::Complement(s) => format!("= ~ {s}"),
         DraftSet::Intersection(s, u) => format!("= {s} & {u}"),
         DraftSet::Union(s, u) => format!("= {s} + {u}"),
@@ -110,10 +134,10 @@ fn runs(states: &[u64]) -> impl Iterator<Item = String> + '_ {
 }
 
 /// A clause as its literals, `(+2 -0 -1)`.
-fn clause(clause: &Clause) -> String {
+fn clause(clause: &Clause, names: &Names) -> String {
     let facts = |mask: u64| (0..64).filter(move |f| mask >> f & 1 == 1);
-    let positive = facts(clause.positive).map(|f| format!("+{f}"));
-    let negative = facts(clause.negative).map(|f| format!("-{f}"));
+    let positive = facts(clause.positive).map(|f| format!("+{}", names.fact(f)));
+    let negative = facts(clause.negative).map(|f| format!("-{}", names.fact(f)));
     format!("({})", joined(positive.chain(negative)))
 }
 

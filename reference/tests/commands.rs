@@ -1,32 +1,8 @@
 //! The command line: what it prints and how it ends.
 
-use std::io::Write;
-use std::path::PathBuf;
-use std::process::{Command, Output, Stdio};
+mod common;
 
-fn run(arguments: &[&str], input: &[u8]) -> Output {
-    let mut child = Command::new(env!("CARGO_BIN_EXE_reference"))
-        .args(arguments)
-        .stdin(Stdio::piped())
-        .stdout(Stdio::piped())
-        .stderr(Stdio::piped())
-        .spawn()
-        .expect("the program starts");
-    // The program may end without reading its input.
-    let _ = child.stdin.take().expect("an input").write_all(input);
-    child.wait_with_output().expect("the program ends")
-}
-
-fn printed(arguments: &[&str], input: &[u8]) -> String {
-    let output = run(arguments, input);
-    assert!(output.status.success(), "{arguments:?}: {output:?}");
-    String::from_utf8(output.stdout).expect("text")
-}
-
-fn sample(name: &str) -> String {
-    let folder = PathBuf::from(env!("CARGO_MANIFEST_DIR")).join("../samples");
-    folder.join(name).to_string_lossy().into_owned()
-}
+use common::program::{printed, run, sample};
 
 #[test]
 fn check_and_ask() {

@@ -96,7 +96,7 @@ fn refusals_in_words() {
 #[test]
 fn faulty_texts_are_refused_with_their_line() {
     let faults = [
-        ("facts 2\nfact 3", "line 2: unknown line 'fact'"),
+        ("facts 2\nfakt 3", "line 2: unknown line 'fakt'"),
         ("facts 256", "line 1: '256' is no fact count"),
         ("set 1 empty", "line 1: number 0 is next, not 1"),
         ("set 0 = 1 + 2 3", "line 1: '3' is too much"),

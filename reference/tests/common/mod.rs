@@ -2,6 +2,9 @@
 //! by plain recursion, rules by the texts of document 01. For few facts only.
 #![allow(dead_code)]
 
+pub mod naming;
+pub mod program;
+
 use reference::draft::{Draft, DraftActions, DraftSet};
 use reference::file::{Clause, File, Step};
 use reference::pattern::{match_claim, parse, NO_LETTERS};
