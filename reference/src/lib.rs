@@ -7,6 +7,7 @@ pub mod clauses;
 pub mod cost;
 pub mod derivation;
 pub mod draft;
+pub mod draw;
 pub mod explicit;
 pub mod fault;
 pub mod file;

@@ -1,8 +1,9 @@
-//! The command line: check and ask, seeded cases and their replies, and the text form with names.
+//! The command line: check and ask, seeded cases and their replies, the text form with names, and graphs.
 
 use std::io::{self, BufWriter, Read, Write};
 use std::process::ExitCode;
 
+use reference::draw::{draw, Graph};
 use reference::generate::limits::workload;
 use reference::generate::random::Random;
 use reference::generate::{cases, damaged, Case};
@@ -10,7 +11,7 @@ use reference::names::Names;
 use reference::{ask, assemble, check, cost, named, show};
 
 const USAGE: &str = "usage: reference check FILE | ask FILE ENTRY STATE | gen SEED COUNT | damaged FILE SEED COUNT | replies | pack | \
-assemble TEXTFILE | names TEXTFILE | show FILE [NAMES] | cost FILE | \
+assemble TEXTFILE | names TEXTFILE | show FILE [NAMES] | draw FILE [table|steps] [NAMES] | cost FILE | \
 workload NUMBER SEED   (FILE may be - for standard input)";
 
 /// What stops a command: a wrong call, or a message.
@@ -81,6 +82,7 @@ fn run(words: &[&str]) -> Result<(), Stop> {
             let (bytes, names) = read_named(file, rest.first())?;
             out.write_all(show::show_named(&bytes, &names).as_bytes())?;
         }
+        ["draw", file, rest @ ..] => out.write_all(drawn(file, rest)?.as_bytes())?,
         ["cost", file] => match cost::of(&read(file)?) {
             Err(fault) => writeln!(out, "refused {} {}", fault.number, fault.place)?,
             Ok(costs) => {
@@ -133,6 +135,20 @@ fn read_text(file: &str) -> Result<String, Stop> {
 /// A file's bytes, of a text too, and the names that belong to it.
 fn read_named(file: &str, names: Option<&&str>) -> Result<(Vec<u8>, Names), Stop> {
     named::open(file, read(file)?, names.copied()).map_err(Stop::Message)
+}
+
+/// The DOT text for the arguments after a file, `[table|steps] [NAMES]`.
+fn drawn(file: &str, rest: &[&str]) -> Result<String, Stop> {
+    let (graph, names) = match rest {
+        ["table", names @ ..] => (Graph::Task, names),
+        ["steps", names @ ..] => (Graph::Derivation, names),
+        names => (Graph::Both, names),
+    };
+    if names.len() > 1 {
+        return Err(Stop::Usage);
+    }
+    let (bytes, names) = read_named(file, names.first())?;
+    draw(&bytes, &names, graph).map_err(Stop::Message)
 }
 
 /// The cases on standard input, one a line.

@@ -2,6 +2,8 @@
 //! by plain recursion, rules by the texts of document 01. For few facts only.
 #![allow(dead_code)]
 
+pub mod dot;
+pub mod labels;
 pub mod naming;
 pub mod program;
 
@@ -216,7 +218,7 @@ fn pair(x: (u8, bool), y: (u8, bool)) -> bool {
 }
 
 /// Premise count and judgement kind of a rule.
-fn signature(rule: u8) -> Option<(usize, u8)> {
+pub fn signature(rule: u8) -> Option<(usize, u8)> {
     let judgement = match rule {
         1..=4 => 1,
         5 => 2,
