@@ -1,7 +1,4 @@
 pub mod BodyLaws
 pub mod FieldLaws
-pub mod FormLaws
 pub mod CountLaws
-pub mod PartLaws
 pub mod Faults
-pub mod EntryChecks

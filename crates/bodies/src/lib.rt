@@ -1,17 +1,14 @@
-// One entry: its length, its kind and its body, with replies 3 to 7 at the written places and in the written order.
+// The bodies of entries by what they hold: how long one may be, and replies 5 to 7 at the written places and in the written order.
 use bytes::u16_at;
 use bytes::u64_at;
-use reader::entry_head;
 use task::all_facts;
 ghost use mathlib.Core.Path.{_≡_};
 ghost use mathlib.Core.Bool.{true};
 ghost use Prim.Native.Nat.{_+_, _/_, _<_, _≤_};
 ghost use lib.ListN.{length};
-ghost use Rattle.meaning.specs.Bytes.{inside};
-ghost use Rattle.meaning.specs.Layout.{items, ascending, mask, reference, clause, upTo, entry};
+ghost use Rattle.meaning.specs.Layout.{items, ascending, mask, reference, clause, upTo};
 ghost use Rattle.bytes.specs.ClauseRule.{clauseRule};
-ghost use Rattle.bodies.specs.Faults.{fault, faultFrom, setsOf};
-ghost use Rattle.bodies.specs.Faults.{formKnown, formFits, formBody, actionForms, stateForms, formsOf, formAt};
+ghost use Rattle.bodies.specs.Faults.{faultFrom, formFits, formBody};
 
 // What a reader says: no fault, or document 01's number and place.
 pub enum Fault {
@@ -30,24 +27,6 @@ pub enum Form {
     Two(u16, u16),
 }
 
-// A section: the state sets over so many facts, or the action sets; and how many action sets, or actions, their entries may name.
-pub struct Section {
-    pub states: bool,
-    pub facts: u8,
-    pub others: u16,
-}
-
-// Whether k bytes from a place do not run past the end.
-pub fn inside(file: &[u8], k: usize, at: usize) -> bool
-    ensures { λ r. ⌜ r ≡ inside k (now (file .entry)) at ⌝ }
-{
-    if file.len() < k {
-        false
-    } else {
-        at <= file.len() - k
-    }
-}
-
 // Whether the masks of a clause pass its kind's rule: at most two facts in both, or at most one positive fact.
 fn passes(two: bool, positive: u64, negative: u64) -> bool
     ensures { λ r. ⌜ r ≡ clauseRule two positive negative ⌝ }
@@ -59,7 +38,7 @@ fn passes(two: bool, positive: u64, negative: u64) -> bool
     }
 }
 
-// ---- bodies: each is a part of the file, which starts at the place `start`
+// ---- items: a body is a part of the file, which starts at the place `start`
 
 // Numbers below a bound, which ascend.
 fn numbers(part: &[u8], bound: u16, start: u32) -> Fault
@@ -167,65 +146,7 @@ fn two_references(part: &[u8], bound: u16, other: u16, start: u32) -> Fault
     }
 }
 
-// ---- kinds of entry
-
-// The form of an action set, kinds 0 to 2, that is entry i.
-fn action_form(kind: u8, others: u16, i: u16) -> Form
-    ensures { λ r. ⌜ r ≡ formAt (actionForms others i) kind ⌝ }
-{
-    match kind {
-        0 => Form::Bare,
-        1 => Form::Numbers(others),
-        2 => Form::Two(i, i),
-        _ => Form::Unknown,
-    }
-}
-
-// The form of a state set, kinds 0 to 10, that is entry i.
-fn state_form(kind: u8, others: u16, i: u16) -> Form
-    ensures { λ r. ⌜ r ≡ formAt (stateForms others i) kind ⌝ }
-{
-    match kind {
-        0 => Form::Bare,
-        1 => Form::Bare,
-        2 => Form::Bare,
-        3 => Form::States,
-        4 => Form::Clauses(false),
-        5 => Form::Clauses(true),
-        6 => Form::One(i),
-        7 => Form::Two(i, i),
-        8 => Form::Two(i, i),
-        9 => Form::Two(i, others),
-        10 => Form::Two(i, others),
-        _ => Form::Unknown,
-    }
-}
-
-// The form of entry i of a section.
-fn form_at(s: Section, i: u16, kind: u8) -> Form
-    ensures { λ r. ⌜ r ≡ formAt (formsOf s i) kind ⌝ }
-{
-    if s.states {
-        state_form(kind, s.others, i)
-    } else {
-        action_form(kind, s.others, i)
-    }
-}
-
-// Whether a kind has a form.
-fn has_form(form: Form) -> bool
-    ensures { λ r. ⌜ r ≡ formKnown form ⌝ }
-{
-    match form {
-        Form::Unknown => false,
-        Form::Bare => true,
-        Form::Numbers(_) => true,
-        Form::States => true,
-        Form::Clauses(_) => true,
-        Form::One(_) => true,
-        Form::Two(_, _) => true,
-    }
-}
+// ---- bodies
 
 // Whether a body is made of at most `most` items of `size` bytes each.
 fn up_to(size: usize, most: usize, len: usize) -> bool
@@ -236,7 +157,7 @@ fn up_to(size: usize, most: usize, len: usize) -> bool
 }
 
 // Whether a body's length fits its form.
-fn fits(form: Form, len: usize) -> bool
+pub fn fits(form: Form, len: usize) -> bool
     ensures { λ r. ⌜ r ≡ formFits form len ⌝ }
 {
     match form {
@@ -251,7 +172,7 @@ fn fits(form: Form, len: usize) -> bool
 }
 
 // What a body of a form says.
-fn body(form: Form, n: u8, part: &[u8], start: u32) -> Fault
+pub fn body(form: Form, n: u8, part: &[u8], start: u32) -> Fault
     requires { ⌜ (start + length (now part) ≤ 65536) × (formFits form (length (now part)) ≡ true) ⌝ }
     ensures { λ r. ⌜ r ≡ faultFrom start (formBody (now (part .entry)) n form 0 (length (now (part .entry)))) ⌝ }
 {
@@ -264,38 +185,4 @@ fn body(form: Form, n: u8, part: &[u8], start: u32) -> Fault
         Form::One(bound) => reference(part, 0, bound, start),
         Form::Two(bound, other) => two_references(part, bound, other, start),
     }
-}
-
-// ---- entries
-
-// Entry i of a section, at a place.
-pub fn entry(file: &[u8], s: Section, i: u16, place: u32) -> Fault
-    requires { ⌜ length (now file) ≤ 65536 ⌝ }
-    ensures { λ r. ⌜ r ≡ fault (entry (now (file .entry)) (setsOf (now (file .entry)) s .kinds i) place) ⌝ }
-{
-    let at = place as usize;
-    if !inside(file, 2, at) {
-        return Fault::At { number: 3, place };
-    }
-    let head = entry_head(file, place);
-    let len = head.len as usize;
-    if !inside(file, 2 + len, at) {
-        return Fault::At { number: 3, place };
-    }
-    if len < 1 {
-        return Fault::At { number: 4, place };
-    }
-    let form = form_at(s, i, head.kind);
-    if !has_form(form) {
-        return Fault::At {
-            number: 4,
-            place: place + 2,
-        };
-    }
-    if !fits(form, len - 1) {
-        return Fault::At { number: 4, place };
-    }
-    let start = at + 3;
-    let end = at + 2 + len;
-    body(form, s.facts, &file[start..end], place + 3)
 }

@@ -10,7 +10,7 @@ use Rattle.layout.specs.declared.rows.Walked.{Walked}
 use Rattle.bodies.specs.declared.Fault.the-variants.{None, At}
 use Rattle.layout.specs.declared.rows.Walked.the-variants.{After, Refused as Stopped}
 use Rattle.layout.specs.declared.Rest.the-variants.{After as Both, Refused as Ended}
-use Rattle.bodies.specs.declared.Section.{Section}
+use Rattle.entries.specs.declared.Section.{Section}
 use Rattle.meaning.specs.Result.{Result, refuse, found}
 use Rattle.bytes.specs.Numbers.{numberAt}
 use Rattle.bodies.specs.Faults.{fault}

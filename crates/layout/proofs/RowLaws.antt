@@ -13,12 +13,13 @@ use Rattle.layout.specs.declared.rows.Row.the-variants.{Masks, Entries, 
 use Rattle.layout.specs.declared.rows.Item.{Item}
 use Rattle.layout.specs.declared.rows.Stop.{Stop}
 use Rattle.layout.specs.declared.rows.Walked.{Walked}
-use Rattle.bodies.specs.declared.Section.{Section}
+use Rattle.entries.specs.declared.Section.{Section}
 use Rattle.meaning.specs.Result.{Result, refuse, found, _>>=_}
 use Rattle.meaning.specs.Bytes.{number}
 use Rattle.bytes.specs.Numbers.{numberAt}
 use Rattle.meaning.specs.Layout.{items, field, mask, step, entry, entries}
-use Rattle.bodies.specs.Faults.{fault, setsOf}
+use Rattle.bodies.specs.Faults.{fault}
+use Rattle.entries.specs.Forms.{setsOf}
 use Rattle.layout.specs.Rows.{itemFault, itemSize, seenOf, seenAt, stopAt, stopFrom, walkedTo, walked, stepsFrom}
 use Rattle.meaning.proofs.Results.{bind-case}
 use Rattle.bytes.proofs.ByteLaws.{number-in}

@@ -12,13 +12,14 @@ use Rattle.bodies.specs.declared.Fault.{Fault}
 use Rattle.layout.specs.declared.rows.Walked.{Walked}
 use Rattle.bodies.specs.declared.Fault.the-variants.{None, At}
 use Rattle.layout.specs.declared.rows.Walked.the-variants.{After, Refused as Stopped}
-use Rattle.bodies.specs.declared.Section.{Section}
+use Rattle.entries.specs.declared.Section.{Section}
 use Rattle.meaning.specs.Result.{Result, refuse, found, _>>=_}
 use Rattle.meaning.specs.Bytes.{number, inside}
 use Rattle.bytes.specs.Numbers.{numberAt}
 use Rattle.meaning.specs.File.{Step}
 use Rattle.meaning.specs.Layout.{items, field, count, step, Kind, entry, entries}
-use Rattle.bodies.specs.Faults.{fault, setsOf}
+use Rattle.bodies.specs.Faults.{fault}
+use Rattle.entries.specs.Forms.{setsOf}
 use Rattle.layout.specs.Rows.{walked, stepsFrom}
 use Rattle.layout.specs.Sections.{sectionAt, stepsAt}
 use Rattle.meaning.proofs.Results.{bind-case, need-case, found-same}

@@ -14,7 +14,8 @@ use Rattle.meaning.specs.Result.{Result, refuse, found, _>>=_}
 use Rattle.meaning.specs.File.{Step}
 use Rattle.bytes.specs.Numbers.{numberAt}
 use Rattle.meaning.specs.Layout.{items, mask, step, entry}
-use Rattle.bodies.specs.Faults.{fault, setsOf}
+use Rattle.bodies.specs.Faults.{fault}
+use Rattle.entries.specs.Forms.{setsOf}
 
 -- the fault of item i of a row, at place p
 abbrev pub itemFault : List ℕ → Row → ℕ → ℕ → Fault

@@ -7,12 +7,12 @@ use lib.ListN.{length}
 use lib.Dec.{leb, eqb}
 use Rattle.layout.specs.declared.Rest.{Rest}
 use Rattle.layout.specs.declared.Rest.the-variants.{After as Both, Refused as Ended}
-use Rattle.bodies.specs.declared.Section.{Section}
+use Rattle.entries.specs.declared.Section.{Section}
 use Rattle.meaning.specs.Result.{Result, refuse, found, _>>=_, need}
 use Rattle.bytes.specs.Numbers.{numberAt}
 use Rattle.meaning.specs.File.{Step}
 use Rattle.meaning.specs.Layout.{items, field, count, step, entries}
-use Rattle.bodies.specs.Faults.{setsOf}
+use Rattle.entries.specs.Forms.{setsOf}
 
 -- a reading of what follows the actions, as two places
 abbrev pub rest : Result (ℕ × ℕ) → Rest

@@ -1,10 +1,10 @@
 // Items that stand one after the other in the file: a reader walks on from each to the next, up to the first fault.
 use bodies::Fault;
-use bodies::Section;
-use bodies::entry;
-use bodies::inside;
 use bytes::u16_at;
 use bytes::u64_at;
+use entries::Section;
+use entries::entry;
+use entries::inside;
 use reader::past;
 use reader::reader_at;
 use task::all_facts;

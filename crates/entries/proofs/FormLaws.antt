@@ -7,15 +7,16 @@ use native.Mathlib.Omega.{arith}
 use mathlib.Core.Bool.{Bool, true, false}
 use mathlib.Core.List.{List, [], _∷_}
 use lib.ListN.{getElem?}
 use Rattle.bodies.specs.declared.Form.{Form}
 use Rattle.bodies.specs.declared.Form.the-variants.{Bare, One, Two}
-use Rattle.bodies.specs.declared.Section.{Section}
+use Rattle.entries.specs.declared.Section.{Section}
 use Rattle.meaning.specs.Result.{Result, refuse, found, _>>=_}
 use Rattle.meaning.specs.Layout.{items, ascending, mask, reference, clause, Kind, plain, one, two, clauses, actionKinds, stateKinds}
 use Rattle.meaning.specs.Layout.{hornRule, twoCnfRule}
-use Rattle.bodies.specs.Faults.{formKnown, formFits, formBody, formAt, actionForms, stateForms, formsBy, formsOf, setsBy, setsOf}
+use Rattle.entries.specs.Forms.{formKnown, formAt, actionForms, stateForms, formsBy, formsOf, setsBy, setsOf}
+use Rattle.bodies.specs.Faults.{formFits, formBody}
 use Rattle.bytes.specs.ClauseRule.{clauseRule}
 use Rattle.bodies.proofs.Faults.{forget}
 
 -- a number that is at least i, and not i
 pub next : {k : ℕ} (i : ℕ) → i ≤ k → (k ≡ i → ⊥) → suc i ≤ k

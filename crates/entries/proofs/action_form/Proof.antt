@@ -3,11 +3,11 @@
 use mathlib.Core.Path.{sym}
 use Prim.Native.Nat.{zero-le}
 use lib.ListN.{List·getD-eq-default}
 use Rattle.bodies.specs.declared.Form.the-variants.{Unknown}
-use Rattle.bodies.specs.Faults.{actionForms}
-use Rattle.bodies.proofs.FormLaws.{next}
-use Rattle.bodies.proofs.action_form.Statement.{statement}
-use Rattle.bodies.proofs.action_form.Tie as tie
+use Rattle.entries.specs.Forms.{actionForms}
+use Rattle.entries.proofs.FormLaws.{next}
+use Rattle.entries.proofs.action_form.Statement.{statement}
+use Rattle.entries.proofs.action_form.Tie as tie
 
 returns-4 : tie.Need-returns-4
 returns-4 c =

@@ -3,11 +3,11 @@
 use mathlib.Core.Path.{sym}
 use Prim.Native.Nat.{zero-le}
 use lib.ListN.{List·getD-eq-default}
 use Rattle.bodies.specs.declared.Form.the-variants.{Unknown}
-use Rattle.bodies.specs.Faults.{stateForms}
-use Rattle.bodies.proofs.FormLaws.{next}
-use Rattle.bodies.proofs.state_form.Statement.{statement}
-use Rattle.bodies.proofs.state_form.Tie as tie
+use Rattle.entries.specs.Forms.{stateForms}
+use Rattle.entries.proofs.FormLaws.{next}
+use Rattle.entries.proofs.state_form.Statement.{statement}
+use Rattle.entries.proofs.state_form.Tie as tie
 
 returns-12 : tie.Need-returns-12
 returns-12 c =

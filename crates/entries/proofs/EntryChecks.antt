@@ -8,19 +8,20 @@ use mathlib.Core.Bool.{Bool, true, false, not}
 use mathlib.Core.List.{List}
 use lib.ListN.{length, take, drop, getElem?}
 use borrow.Author.Tests.{le-leb, lt-leb, not-true, not-false}
 use Rattle.bodies.specs.declared.Form.{Form}
 use Rattle.bodies.specs.declared.Fault.{Fault}
 use Rattle.bodies.specs.declared.Fault.the-variants.{At}
 use Rattle.meaning.specs.Result.{Result, refuse, found, _>>=_, known}
 use Rattle.meaning.specs.Bytes.{number, inside}
 use Rattle.bytes.specs.Numbers.{numberAt}
 use Rattle.meaning.specs.Layout.{Kind, field, entry}
-use Rattle.bodies.specs.Faults.{fault, faultFrom, formKnown, formFits, formBody, formAt}
+use Rattle.bodies.specs.Faults.{fault, faultFrom, formFits, formBody}
+use Rattle.entries.specs.Forms.{formKnown, formAt}
 use Rattle.bytes.proofs.ByteLaws.{inside-out, number-in}
 use Rattle.bodies.proofs.Faults.{forget, told, told-refused, goes-on, stops, passed, failed}
 use Rattle.bodies.proofs.FieldLaws.{field-in}
-use Rattle.bodies.proofs.FormLaws.{Same, Alike, no-kind, kind-of}
-use Rattle.bodies.proofs.PartLaws.{part-length, part-says}
+use Rattle.entries.proofs.FormLaws.{Same, Alike, no-kind, kind-of}
+use Rattle.entries.proofs.PartLaws.{part-length, part-says}
 
 no-known : {A B : Type 0} {o : Option A} (n p : ℕ) (g : A → Result B) → o ≡ none → (known o n p >>= g) ≡ refuse n p
 unfolding known _>>=_

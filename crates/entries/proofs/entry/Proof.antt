@@ -2,13 +2,13 @@
 -- Assumes nothing.
 use Prim.Native.Nat.{ℕ, _+_, _-_}
 use native.Mathlib.Omega.{arith}
-use Rattle.bodies.specs.Faults.{formsOf}
-use Rattle.bodies.proofs.FormLaws.{section-alike}
-use Rattle.bodies.proofs.EntryChecks.{Begun, begun, Kinded, kinded, entry-cut, entry-past, entry-ends, entry-none, entry-unknown}
-use Rattle.bodies.proofs.EntryChecks.{entry-unfit, entry-part, entry-body}
+use Rattle.entries.specs.Forms.{formsOf}
+use Rattle.entries.proofs.FormLaws.{section-alike}
+use Rattle.entries.proofs.EntryChecks.{Begun, begun, Kinded, kinded, entry-cut, entry-past, entry-ends, entry-none, entry-unknown}
+use Rattle.entries.proofs.EntryChecks.{entry-unfit, entry-part, entry-body}
 use borrow.Author.Needs.{needs}
-use Rattle.bodies.proofs.entry.Statement.{statement}
-use Rattle.bodies.proofs.entry.Tie as tie
+use Rattle.entries.proofs.entry.Statement.{statement}
+use Rattle.entries.proofs.entry.Tie as tie
 
 returns : tie.Need-returns
 returns c =

@@ -3,8 +3,8 @@
 use mathlib.Core.Path.{sym}
 use borrow.Author.Needs.{needs}
 use Rattle.bytes.proofs.ByteLaws.{inside-past, inside-room}
-use Rattle.bodies.proofs.inside.Statement.{statement}
-use Rattle.bodies.proofs.inside.Tie as tie
+use Rattle.entries.proofs.inside.Statement.{statement}
+use Rattle.entries.proofs.inside.Tie as tie
 
 returns : tie.Need-returns
 returns c = sym (inside-past (c .before .args .k) (c .before .args .file .now) (c .before .args .at) (search needs))

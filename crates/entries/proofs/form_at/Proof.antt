@@ -2,10 +2,10 @@
 -- Assumes nothing.
 use mathlib.Core.Path.{sym, ap, _∙_}
 use mathlib.Core.Bool.{Bool}
-use Rattle.bodies.specs.Faults.{formsBy, formAt}
+use Rattle.entries.specs.Forms.{formsBy, formAt}
 use borrow.Author.Needs.{needs}
-use Rattle.bodies.proofs.form_at.Statement.{statement}
-use Rattle.bodies.proofs.form_at.Tie as tie
+use Rattle.entries.proofs.form_at.Statement.{statement}
+use Rattle.entries.proofs.form_at.Tie as tie
 
 returns : tie.Need-returns
 returns c =
