@@ -3,46 +3,12 @@
 use bytes::u32_at;
 use bytes::u64_at;
 use libc::STDIN_FILENO;
-use libc::STDOUT_FILENO;
-use meaning::Answer;
-use meaning::Reply;
+use printing::print_answer;
+use printing::print_reply;
 use question::ask;
 use verifier::check;
 ghost use mathlib.Core.Path.{_≡_};
 ghost use lib.ListN.{length};
-
-fn print_refused(number: u8, place: u32) {
-    io::write_all(STDOUT_FILENO, b"refused ");
-    io::print_decimal(STDOUT_FILENO, number as u64);
-    io::write_all(STDOUT_FILENO, b" ");
-    io::print_decimal(STDOUT_FILENO, place as u64);
-    io::write_all(STDOUT_FILENO, b"\n");
-}
-
-fn print_check(file: &[u8]) {
-    match check(file) {
-        Reply::Accepted => {
-            io::write_all(STDOUT_FILENO, b"accepted\n");
-        }
-        Reply::Refused { number, place } => {
-            print_refused(number, place);
-        }
-    }
-}
-
-fn print_answer(file: &[u8], entry: u64, state: u64) {
-    match ask(file, entry, state) {
-        Answer::In => {
-            io::write_all(STDOUT_FILENO, b"in\n");
-        }
-        Answer::Out => {
-            io::write_all(STDOUT_FILENO, b"out\n");
-        }
-        Answer::Refused { number, place } => {
-            print_refused(number, place);
-        }
-    }
-}
 
 // Reads the next bytes of standard input, as many as asked for where the buffer holds them.
 fn read_part(buffer: &mut [u8], len: usize) -> usize
@@ -73,9 +39,9 @@ fn one_case() -> bool {
         return false;
     }
     if question == 0 {
-        print_check(&file[..len]);
+        print_reply(check(&file[..len]));
     } else {
-        print_answer(&file[..len], entry, state);
+        print_answer(ask(&file[..len], entry, state));
     }
     true
 }

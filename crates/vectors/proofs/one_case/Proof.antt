@@ -6,11 +6,11 @@ use borrow.Author.Needs.{needs}
 use Rattle.vectors.proofs.one_case.Statement.{statement}
 use Rattle.vectors.proofs.one_case.Tie as tie
 
-slice-aggregate-print-check : tie.Need-slice-aggregate-print-check
-slice-aggregate-print-check c = let e = c .before .before .before .before .read-part .ensures in simp length-take (omega arith)
+slice-aggregate-check : tie.Need-slice-aggregate-check
+slice-aggregate-check c = let e = c .before .before .before .before .read-part .ensures in simp length-take (omega arith)
 
-slice-aggregate-print-answer : tie.Need-slice-aggregate-print-answer
-slice-aggregate-print-answer c = let e = c .before .before .before .before .read-part .ensures in simp length-take (omega arith)
+slice-aggregate-ask : tie.Need-slice-aggregate-ask
+slice-aggregate-ask c = let e = c .before .before .before .before .read-part .ensures in simp length-take (omega arith)
 
 pub one-case-spec : {M : Type 1} → statement M
 one-case-spec =
@@ -32,10 +32,12 @@ one-case-spec =
     (λ c κs. search needs)
     (λ c. search needs)
     (λ c. search needs)
-    slice-aggregate-print-check
+    slice-aggregate-check
+    (λ c κs. search needs)
     (λ c κs. search needs)
     (λ c. search needs)
-    slice-aggregate-print-answer
+    slice-aggregate-ask
+    (λ c κs. search needs)
     (λ c κs. search needs)
     (λ c. search needs)
     (λ c. search needs))
