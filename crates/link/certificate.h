@@ -1,4 +1,4 @@
-/* The proved checker from C. Link with target/staticlib/liblink.a, which `rt staticlib link` writes (x86-64). */
+/* The proved checker from C or C++. Link with target/staticlib/liblink.a, which `rt staticlib link` writes (x86-64). */
 #ifndef CERTIFICATE_H
 #define CERTIFICATE_H
 
@@ -9,18 +9,52 @@
 extern "C" {
 #endif
 
-/* A refusal is one number: document 01's refusal number, from 1 to 13, times 2^32, plus its place. */
-#define CERTIFICATE_NUMBER(code) ((uint32_t)((uint64_t)(code) >> 32))
-#define CERTIFICATE_PLACE(code) ((uint32_t)(code))
-
-/* The `length` bytes at `file` are read and not written, and no pointer is kept.
-   `file` is never NULL, also where `length` is 0. Any bytes may be passed. */
+/* The `length` bytes at `file` are read and not written, and no pointer is kept. Any bytes may be passed.
+   `file` may be NULL where `length` is 0: that is an empty file, refused with 1 at 0. */
 
 /* 0 where the file's certificate shows that no forbidden state is ever reached, else the refusal. */
 uint64_t certificate_check(const uint8_t *file, size_t length);
 
-/* Whether a state is in the set of an entry of the file: 0 where it is not, 1 where it is, else the refusal. */
+/* Whether a state is in the set of an entry of the file: CERTIFICATE_OUT, CERTIFICATE_IN, else the refusal. */
 uint64_t certificate_ask(const uint8_t *file, size_t length, uint64_t entry, uint64_t state);
+
+enum { CERTIFICATE_OUT = 0, CERTIFICATE_IN = 1 };
+
+/* A refusal is one number: document 01's refusal number times 2^32, plus its place. That is a byte of the file for the numbers 1
+   to 7, a step for 8 to 12, and 0 for 13. What is no refusal has number 0. */
+#define CERTIFICATE_NUMBER(code) ((uint32_t)((uint64_t)(code) >> 32))
+#define CERTIFICATE_PLACE(code) ((uint32_t)(code))
+
+/* Each number with its name and what it means. */
+#define CERTIFICATE_NUMBERS(EACH) \
+    EACH(CERTIFICATE_ACCEPTED, 0, "accepted") \
+    EACH(CERTIFICATE_REFUSED_LENGTH, 1, "under 4 bytes, over 65,536, or a wrong length field") \
+    EACH(CERTIFICATE_REFUSED_VERSION, 2, "unknown version") \
+    EACH(CERTIFICATE_REFUSED_END, 3, "a field, entry or step runs past the end, or bytes are left over") \
+    EACH(CERTIFICATE_REFUSED_RANGE, 4, "n, a count or an entry's kind out of range, or an entry length unfit for its kind") \
+    EACH(CERTIFICATE_REFUSED_FACT, 5, "a mask or state names fact n or above") \
+    EACH(CERTIFICATE_REFUSED_REFERENCE, 6, "an action or entry number not allowed there") \
+    EACH(CERTIFICATE_REFUSED_ORDER, 7, "an order or clause rule broken") \
+    EACH(CERTIFICATE_REFUSED_STEP, 8, "unknown rule, wrong judgement kind, entry outside the file, premise not an earlier step, or unused place not zero") \
+    EACH(CERTIFICATE_REFUSED_PATTERN, 9, "pattern not matched") \
+    EACH(CERTIFICATE_REFUSED_SHAPE, 10, "shape not permitted") \
+    EACH(CERTIFICATE_REFUSED_UNTRUE, 11, "basic statement untrue") \
+    EACH(CERTIFICATE_REFUSED_LAST, 12, "the last step is not \"unsolvable\"") \
+    EACH(CERTIFICATE_REFUSED_QUESTION, 13, "a question that cannot be asked")
+
+#define CERTIFICATE_CONSTANT(name, number, text) name = number,
+enum certificate_number { CERTIFICATE_NUMBERS(CERTIFICATE_CONSTANT) };
+#undef CERTIFICATE_CONSTANT
+
+/* What a number means. */
+static inline const char *certificate_text(uint32_t number) {
+#define CERTIFICATE_CASE(name, number, text) case name: return text;
+    switch (number) {
+    CERTIFICATE_NUMBERS(CERTIFICATE_CASE)
+    default: return "unknown number";
+    }
+#undef CERTIFICATE_CASE
+}
 
 #ifdef __cplusplus
 }
