@@ -1,37 +1,88 @@
-// Prints replies and answers, one line each, for the programs. What arrives at the other end no contract can say.
+// Prints replies and answers, one line each. What the line is, is proved; that it arrives, no contract can say.
 use libc::STDOUT_FILENO;
 use meaning::Answer;
 use meaning::Reply;
+ghost use mathlib.Core.Path.{_≡_};
+ghost use mathlib.Core.List.{List, _++_};
+ghost use Prim.Native.Nat.{ℕ, _+_, _≤_};
+ghost use lib.ListN.{length, take};
+ghost use Rattle.io.specs.Counts.{Counts};
+ghost use Rattle.printing.specs.Lines.{Numeral, RefusedLine, ReplyLine, AnswerLine};
 
-fn print_refused(number: u8, place: u32) {
-    io::write_all(STDOUT_FILENO, b"refused ");
-    io::print_decimal(STDOUT_FILENO, number as u64);
-    io::write_all(STDOUT_FILENO, b" ");
-    io::print_decimal(STDOUT_FILENO, place as u64);
-    io::write_all(STDOUT_FILENO, b"\n");
+// Puts a text into a line, and returns where it ends.
+fn put(line: &mut [u8], at: usize, text: &[u8]) -> usize
+    requires { ⌜ at + length (now text) ≤ length (now line) ⌝ }
+    ensures { λ r. ⌜ length (now (line .exit)) ≡ length (now (line .entry)) ⌝ }
+    ensures { λ r. ⌜ r ≡ at + length (now (text .entry)) ⌝ }
+    ensures { λ r. ⌜ take r (now (line .exit)) ≡ take at (now (line .entry)) ++ now (text .entry) ⌝ }
+{
+    let mut i = 0;
+    let mut end = at;
+    while i < text.len() {
+        line[end] = text[i];
+        end += 1;
+        i += 1;
+    }
+    end
+}
+
+// Puts a number into a line, in decimal, and returns where it ends.
+fn put_number(line: &mut [u8], at: usize, n: u64) -> usize
+    requires { ⌜ at + 20 ≤ length (now line) ⌝ }
+    ensures { λ r. ⌜ length (now (line .exit)) ≡ length (now (line .entry)) ⌝ }
+    ensures { λ r. ⌜ r ≤ at + 20 ⌝ }
+    ensures { λ r. ⌜ ((t : List ℕ) × (Numeral n t × (take r (now (line .exit)) ≡ take at (now (line .entry)) ++ t))) ⌝ }
+{
+    let mut text = [0u8; 20];
+    let k = io::decimal(n, &mut text);
+    put(line, at, &text[..k])
+}
+
+fn refused_line(number: u8, place: u32, line: &mut [u8]) -> usize
+    requires { ⌜ 50 ≤ length (now line) ⌝ }
+    ensures { λ r. ⌜ Counts r (now (line .exit)) ⌝ }
+    ensures { λ r. ⌜ RefusedLine number place (take r (now (line .exit))) ⌝ }
+{
+    let word = put(line, 0, b"refused ");
+    let first = put_number(line, word, number as u64);
+    let space = put(line, first, b" ");
+    let second = put_number(line, space, place as u64);
+    put(line, second, b"\n")
+}
+
+// A reply's line, and its length.
+fn reply_line(reply: Reply, line: &mut [u8]) -> usize
+    requires { ⌜ 50 ≤ length (now line) ⌝ }
+    ensures { λ r. ⌜ Counts r (now (line .exit)) ⌝ }
+    ensures { λ r. ⌜ ReplyLine reply (take r (now (line .exit))) ⌝ }
+{
+    match reply {
+        Reply::Accepted => put(line, 0, b"accepted\n"),
+        Reply::Refused { number, place } => refused_line(number, place, line),
+    }
+}
+
+// An answer's line, and its length.
+fn answer_line(answer: Answer, line: &mut [u8]) -> usize
+    requires { ⌜ 50 ≤ length (now line) ⌝ }
+    ensures { λ r. ⌜ Counts r (now (line .exit)) ⌝ }
+    ensures { λ r. ⌜ AnswerLine answer (take r (now (line .exit))) ⌝ }
+{
+    match answer {
+        Answer::In => put(line, 0, b"in\n"),
+        Answer::Out => put(line, 0, b"out\n"),
+        Answer::Refused { number, place } => refused_line(number, place, line),
+    }
 }
 
 pub fn print_reply(reply: Reply) {
-    match reply {
-        Reply::Accepted => {
-            io::write_all(STDOUT_FILENO, b"accepted\n");
-        }
-        Reply::Refused { number, place } => {
-            print_refused(number, place);
-        }
-    }
+    let mut line = [0u8; 50];
+    let n = reply_line(reply, &mut line);
+    io::write_all(STDOUT_FILENO, &line[..n]);
 }
 
 pub fn print_answer(answer: Answer) {
-    match answer {
-        Answer::In => {
-            io::write_all(STDOUT_FILENO, b"in\n");
-        }
-        Answer::Out => {
-            io::write_all(STDOUT_FILENO, b"out\n");
-        }
-        Answer::Refused { number, place } => {
-            print_refused(number, place);
-        }
-    }
+    let mut line = [0u8; 50];
+    let n = answer_line(answer, &mut line);
+    io::write_all(STDOUT_FILENO, &line[..n]);
 }

@@ -1,0 +1,41 @@
+-- The line that a program prints for a reply or an answer, as ASCII codes.
+-- Assumes nothing.
+use mathlib.Core.Path.{_≡_}
+use Prim.Native.Nat.{ℕ}
+use mathlib.Core.List.{List, [], _∷_, _++_}
+use Rattle.io.specs.Digits.{digits, Fewest}
+use Rattle.meaning.specs.declared.Reply.{Reply}
+use Rattle.meaning.specs.declared.Reply.the-variants.{Accepted, Refused}
+use Rattle.meaning.specs.declared.Answer.{Answer}
+use Rattle.meaning.specs.declared.Answer.the-variants as answer
+
+-- "accepted", "refused " with the space, "in", "out"; and the line's end
+unfoldable pub accepted : List ℕ
+accepted = 97 ∷ 99 ∷ 99 ∷ 101 ∷ 112 ∷ 116 ∷ 101 ∷ 100 ∷ []
+
+unfoldable pub refused : List ℕ
+refused = 114 ∷ 101 ∷ 102 ∷ 117 ∷ 115 ∷ 101 ∷ 100 ∷ 32 ∷ []
+
+unfoldable pub in-text : List ℕ
+in-text = 105 ∷ 110 ∷ []
+
+unfoldable pub out-text : List ℕ
+out-text = 111 ∷ 117 ∷ 116 ∷ []
+
+-- t is n in decimal, with no zeros in front
+unfoldable pub Numeral : ℕ → List ℕ → Type 0
+Numeral n t = (k : ℕ) × (Fewest 10 1 n k × (t ≡ digits 10 k n))
+
+-- t is "refused", number and place in decimal, one space between them
+unfoldable pub RefusedLine : ℕ → ℕ → List ℕ → Type 0
+RefusedLine number place t =
+    (a : List ℕ) × (b : List ℕ) × (Numeral number a × (Numeral place b × (t ≡ refused ++ a ++ (32 ∷ []) ++ b ++ (10 ∷ []))))
+
+unfoldable pub ReplyLine : Reply → List ℕ → Type 0
+ReplyLine Accepted t = t ≡ accepted ++ (10 ∷ [])
+ReplyLine (Refused number place) t = RefusedLine number place t
+
+unfoldable pub AnswerLine : Answer → List ℕ → Type 0
+AnswerLine answer.In t = t ≡ in-text ++ (10 ∷ [])
+AnswerLine answer.Out t = t ≡ out-text ++ (10 ∷ [])
+AnswerLine (answer.Refused number place) t = RefusedLine number place t
