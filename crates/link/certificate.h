@@ -35,7 +35,8 @@ enum { CERTIFICATE_OUT = 0, CERTIFICATE_IN = 1 };
     EACH(CERTIFICATE_REFUSED_FACT, 5, "a mask or state names fact n or above") \
     EACH(CERTIFICATE_REFUSED_REFERENCE, 6, "an action or entry number not allowed there") \
     EACH(CERTIFICATE_REFUSED_ORDER, 7, "an order or clause rule broken") \
-    EACH(CERTIFICATE_REFUSED_STEP, 8, "unknown rule, wrong judgement kind, entry outside the file, premise not an earlier step, or unused place not zero") \
+    EACH(CERTIFICATE_REFUSED_STEP, 8, "unknown rule, wrong judgement kind, entry outside the file, " \
+                                      "premise not an earlier step, or unused place not zero") \
     EACH(CERTIFICATE_REFUSED_PATTERN, 9, "pattern not matched") \
     EACH(CERTIFICATE_REFUSED_SHAPE, 10, "shape not permitted") \
     EACH(CERTIFICATE_REFUSED_UNTRUE, 11, "basic statement untrue") \

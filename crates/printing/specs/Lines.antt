@@ -9,7 +9,7 @@ use Rattle.meaning.specs.declared.Reply.the-variants.{Accepted, Refused}
 use Rattle.meaning.specs.declared.Answer.{Answer}
 use Rattle.meaning.specs.declared.Answer.the-variants as answer
 
--- "accepted", "refused " with the space, "in", "out"; and the line's end
+-- "accepted", "refused " with its space, "in" and "out". A line ends with 10; 32 is a space.
 unfoldable pub accepted : List ℕ
 accepted = 97 ∷ 99 ∷ 99 ∷ 101 ∷ 112 ∷ 116 ∷ 101 ∷ 100 ∷ []
 
