@@ -33,26 +33,41 @@ struct Reader<'a> {
 
 /// Decodes a file, or gives the first fault of its layout.
 pub fn read(bytes: &[u8]) -> Read<File> {
-    let wrong_length = || Fault::layout(1, 0, Item::Whole);
-    if bytes.len() < 4 || bytes.len() > MAX_BYTES {
-        return Err(wrong_length());
-    }
-    let stated = u32::from_be_bytes([bytes[0], bytes[1], bytes[2], bytes[3]]);
-    if stated as usize != bytes.len() - 4 {
-        return Err(wrong_length());
-    }
-    let mut reader = Reader { bytes, at: 4, file: File::default(), barred: 0 };
-    reader.task()?;
-    reader.action_sets()?;
-    reader.state_sets()?;
-    reader.steps()?;
-    if reader.at < bytes.len() {
-        return Err(Fault::layout(3, reader.at, Item::Rest));
-    }
+    let mut reader = Reader::new(bytes);
+    reader.whole()?;
     Ok(reader.file)
 }
 
+/// The items of a file that stand before the first fault of its layout, and that fault. Of an
+/// entry with a fault, the states and clauses before it stand at the end of the common lists.
+pub fn beginning(bytes: &[u8]) -> (File, Option<Fault>) {
+    let mut reader = Reader::new(bytes);
+    let fault = reader.whole().err();
+    (reader.file, fault)
+}
+
 impl<'a> Reader<'a> {
+    fn new(bytes: &'a [u8]) -> Reader<'a> {
+        Reader { bytes, at: 4, file: File::default(), barred: 0 }
+    }
+
+    /// All parts of the file in turn.
+    fn whole(&mut self) -> Read<()> {
+        let wrong_length = || Fault::layout(1, 0, Item::Whole);
+        let Some((stated, rest)) = self.bytes.split_first_chunk() else { return Err(wrong_length()) };
+        if self.bytes.len() > MAX_BYTES || u32::from_be_bytes(*stated) as usize != rest.len() {
+            return Err(wrong_length());
+        }
+        self.task()?;
+        self.action_sets()?;
+        self.state_sets()?;
+        self.steps()?;
+        if self.at < self.bytes.len() {
+            return Err(Fault::layout(3, self.at, Item::Rest));
+        }
+        Ok(())
+    }
+
     /// The next `length` bytes, or 3 at their first.
     fn take(&mut self, length: usize, item: Item) -> Read<&'a [u8]> {
         match self.bytes.get(self.at..self.at + length) {

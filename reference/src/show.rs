@@ -116,7 +116,7 @@ pub fn state_set(set: &DraftSet, names: &Names) -> String {
 }
 
 /// A state as a number, the larger ones in hexadecimal.
-fn state(state: u64) -> String {
+pub fn state(state: u64) -> String {
     if state < 1024 {
         state.to_string()
     } else {
@@ -125,7 +125,7 @@ fn state(state: u64) -> String {
 }
 
 /// The states in turn, four or more that follow each other as a range.
-fn runs(states: &[u64]) -> impl Iterator<Item = String> + '_ {
+pub fn runs(states: &[u64]) -> impl Iterator<Item = String> + '_ {
     let follows = |a: &u64, b: &u64| a.checked_add(1) == Some(*b);
     states.chunk_by(follows).flat_map(|run| match run {
         [first, _, .., _, last] => vec![format!("{}..{}", state(*first), state(*last))],
@@ -143,7 +143,7 @@ fn clause(clause: &Clause, names: &Names) -> String {
 
 /// Rule name, judgement and premises, and the rule's number and text as a comment; a
 /// step whose fields do not fit its rule is written raw.
-fn step_text(step: &Step) -> String {
+pub fn step_text(step: &Step) -> String {
     let [e, f] = step.entries;
     let [p, q, r] = step.premises;
     let raw = format!("raw {} {} {e} {f} {p} {q} {r}", step.rule, step.kind);
