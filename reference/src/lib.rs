@@ -8,6 +8,7 @@ pub mod cost;
 pub mod derivation;
 pub mod draft;
 pub mod draw;
+pub mod explain;
 pub mod explicit;
 pub mod fault;
 pub mod file;

@@ -1,0 +1,105 @@
+//! An accepted file in words: the invariant, the dead sets in turn, and the steps by their rules.
+
+use super::text::{counted, Text};
+use crate::draft::DraftSet;
+use crate::explain::accepted::{closure, Argument, Closure};
+use crate::file::File;
+use crate::rules::by_number;
+
+/// The argument in lines.
+pub fn words(text: &Text, file: &File, argument: &Argument) -> Vec<String> {
+    let mut lines = task(text);
+    lines.push(String::new());
+    lines.extend(invariant(text, argument));
+    lines.push(String::new());
+    lines.push(
+        "Dead are, in turn (no sequence of actions from init to a goal state passes a dead set):".into(),
+    );
+    for (number, set) in &argument.dead {
+        lines.push(format!("  {}, by step {number} {}", text.set(*set), rule_name(file, *number)));
+        lines.push(format!("    {}.", reason(file, *number)));
+    }
+    let last = file.steps.len() - 1;
+    let premise = file.steps[last].premises[0];
+    let set = text.set(file.steps[premise as usize].entries[0]);
+    let by = format!("step {last} {}", rule_name(file, last));
+    lines.push(format!("So the task is unsolvable, by {by}: {set} is dead (step {premise})."));
+    lines.push(String::new());
+    lines.extend(counts(file, argument));
+    lines
+}
+
+fn rule_name(file: &File, number: usize) -> &'static str {
+    by_number(file.steps[number].rule).map_or("", |rule| rule.name)
+}
+
+fn task(text: &Text) -> Vec<String> {
+    let (init, goal) = (text.state(text.draft.init), text.names.facts_of(text.draft.goal));
+    let facts = counted(text.draft.facts as usize, "fact");
+    let actions = counted(text.draft.actions.len(), "action");
+    vec![
+        format!("No sequence of actions leads from init, {init}, to a goal state, one with {goal} on."),
+        format!("The task has {facts} and {actions}."),
+    ]
+}
+
+/// The sets that are closed under the actions, forwards (PG, PI) or backwards (RG, RI).
+fn invariant(text: &Text, argument: &Argument) -> Vec<String> {
+    if argument.closures.is_empty() {
+        return vec!["No set that is closed under the actions is needed.".into()];
+    }
+    let mut lines = vec!["The invariant:".to_string()];
+    for Closure { step, set, rest } in &argument.closures {
+        let rule = text.draft.steps[*step].rule;
+        let (way, by) = if rule < 11 { ("out of it", "into") } else { ("into it", "from") };
+        let by_step = format!("step {step} {}", by_number(rule).map_or("", |rule| rule.name));
+        lines.push(format!("  {}", text.set(*set)));
+        lines.push(match text.draft.state_sets[*rest as usize] {
+            DraftSet::Empty => {
+                format!("    No action leads {way} ({by_step}; the rest, set {rest}, is empty).")
+            }
+            _ => format!(
+                "    No action leads {way} but {by} the rest, {}, which is dead ({by_step}).",
+                text.set(*rest)
+            ),
+        });
+    }
+    lines
+}
+
+/// Why the set of a step "E dead" is dead, in words for its rule.
+fn reason(file: &File, number: usize) -> String {
+    let step = &file.steps[number];
+    let [p, q, r] = step.premises;
+    let named = |k: usize, entry: usize| file.steps[step.premises[k] as usize].entries[entry];
+    let Some(Closure { set, rest, .. }) = closure(file, number) else {
+        return match step.rule {
+            6 => "It is empty".into(),
+            7 => format!("Both its parts are dead (steps {p} and {q})"),
+            _ => format!("It is within set {} (step {p}), which is dead (step {q})", named(0, 1)),
+        };
+    };
+    let leaving = format!(
+        "From set {set} actions lead only into it or set {rest} (step {p}), which is dead (step {q})"
+    );
+    let entering = format!(
+        "Into set {set} actions lead only from it or set {rest} (step {p}), which is dead (step {q})"
+    );
+    match step.rule {
+        9 => format!("{leaving}; its goal states, set {}, are dead (step {r})", named(2, 0)),
+        10 => format!("{leaving}; init is in set {set} (step {r}), so nothing outside it is reached but through set {rest}"),
+        11 => format!("{entering}; the goal states outside it, set {}, are dead (step {r})", named(2, 0)),
+        _ => format!("{entering}; init is not in set {set} (step {r}), so it is never reached but through set {rest}"),
+    }
+}
+
+/// How many steps there are of which rules, and how many of them are needed.
+fn counts(file: &File, argument: &Argument) -> Vec<String> {
+    let used = argument.rules.iter().map(|(rule, count)| format!("{count} {}", rule.name));
+    let (needed, others) = (argument.support.len(), file.steps.len() - 1);
+    let rests = match others - needed {
+        0 => format!("The last step rests on all {others} others."),
+        spare => format!("The last step rests on {needed} of the {others} others; of the {spare} it does not need, {} are named by no step.", argument.unnamed),
+    };
+    vec![format!("{}: {}.", counted(file.steps.len(), "step"), used.collect::<Vec<_>>().join(", ")), rests]
+}

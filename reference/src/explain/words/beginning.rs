@@ -1,0 +1,88 @@
+//! The text form of what stands before a layout fault. Items that were read whole are lines that
+//! `assemble` takes; the beginning of the item with the fault is a comment.
+
+use super::text::{actions_content, set_content, Text, ALL};
+use crate::draft::{Draft, DraftActions, DraftSet};
+use crate::explain::layout::{entry_place, LayoutFault};
+use crate::fault::Item;
+use crate::file::{Clause, File};
+use crate::names::Names;
+use crate::show;
+
+/// The lines of everything before the fault; `file` is what was read before it.
+pub fn lines(bytes: &[u8], file: &File, fault: &LayoutFault, names: &Names) -> Vec<String> {
+    let draft = Draft::of(file);
+    let text = Text { draft: &draft, names };
+    let mut lines = vec![
+        format!("facts {}", draft.facts),
+        format!("init {}", show::state(draft.init)),
+        format!("goal {}", names.facts_of(draft.goal)),
+    ];
+    lines.truncate(head_items(fault.item));
+    lines.extend((0..draft.actions.len()).map(|a| text.action(a as u16)));
+    let sets = draft.action_sets.iter().enumerate();
+    lines.extend(sets.map(|(e, set)| format!("actions {e} {}", actions_content(set, names, ALL))));
+    let sets = draft.state_sets.iter().enumerate();
+    lines.extend(sets.map(|(e, set)| format!("set {e} {}", set_content(set, names, ALL))));
+    let steps = draft.steps.iter().enumerate();
+    lines.extend(steps.map(|(s, step)| format!("step {s} {}", show::step_text(step))));
+    lines.extend(begun(bytes, file, fault, names).map(|begun| format!("# {begun} ...")));
+    lines
+}
+
+/// How many of facts, init and goal stand before the item.
+fn head_items(item: Item) -> usize {
+    match item {
+        Item::Whole | Item::Field("version" | "fact count") => 0,
+        Item::Field("init") => 1,
+        Item::Field("goal") => 2,
+        Item::Field(_) | Item::Mask(..) | Item::Entry(..) | Item::EntryLength(..) => 3,
+        Item::EntryKind(..) | Item::Part(..) | Item::Step(_) | Item::Rest => 3,
+    }
+}
+
+/// The beginning of the action, list, or set of clauses in which the fault lies.
+fn begun(bytes: &[u8], file: &File, fault: &LayoutFault, names: &Names) -> Option<String> {
+    let word = |place: usize| number(bytes, place, 8);
+    match fault.item {
+        Item::Mask(a, mask) => {
+            let masks = ["pre", "add", "del"].into_iter().take_while(|other| *other != mask);
+            let first = 24 + 24 * a as usize;
+            let masks =
+                masks.enumerate().map(|(k, name)| format!(" {name} {}", names.facts_of(word(first + 8 * k))));
+            Some(format!("action {a}{}", masks.collect::<String>()))
+        }
+        Item::Part(group, entry, part, count) => {
+            let body = entry_place(file, group) + 3;
+            let places = |width: usize| (0..count as usize).map(move |k| body + width * k);
+            let clause = |p| Clause { positive: word(p), negative: word(p + 8) };
+            match (part, bytes[body - 1]) {
+                ("action", _) => {
+                    let list = DraftActions::List(places(2).map(|p| number(bytes, p, 2) as u16).collect());
+                    Some(format!("actions {entry} {}", actions_content(&list, names, ALL)))
+                }
+                ("state", _) => {
+                    Some(set_line(entry, &DraftSet::Explicit(places(8).map(word).collect()), names))
+                }
+                ("clause", 4) => {
+                    Some(set_line(entry, &DraftSet::Horn(places(16).map(clause).collect()), names))
+                }
+                ("clause", _) => {
+                    Some(set_line(entry, &DraftSet::TwoCnf(places(16).map(clause).collect()), names))
+                }
+                _ => None,
+            }
+        }
+        Item::Whole | Item::Field(_) | Item::Entry(..) | Item::EntryLength(..) => None,
+        Item::EntryKind(..) | Item::Step(_) | Item::Rest => None,
+    }
+}
+
+fn set_line(entry: u16, set: &DraftSet, names: &Names) -> String {
+    format!("set {entry} {}", set_content(set, names, ALL))
+}
+
+/// The number in so many bytes; all of them were read.
+fn number(bytes: &[u8], place: usize, width: usize) -> u64 {
+    bytes[place..place + width].iter().fold(0, |number, byte| number << 8 | *byte as u64)
+}
