@@ -8,11 +8,13 @@ use reference::generate::limits::workload;
 use reference::generate::random::Random;
 use reference::generate::{cases, damaged, Case};
 use reference::names::Names;
-use reference::{ask, assemble, check, cost, named, show};
+use reference::{ask, assemble, check, cost, explain, named, show};
 
 const USAGE: &str = "usage: reference check FILE | ask FILE ENTRY STATE | gen SEED COUNT | damaged FILE SEED COUNT | replies | pack | \
-assemble TEXTFILE | names TEXTFILE | show FILE [NAMES] | draw FILE [table|steps] [NAMES] | cost FILE | \
+assemble TEXTFILE | names TEXTFILE | show FILE [NAMES] | explain FILE [NAMES] | draw FILE [table|steps] [NAMES] | cost FILE | \
 workload NUMBER SEED   (FILE may be - for standard input)";
+
+const EXPLAIN_USAGE: &str = "usage: explain FILE [NAMES]   (FILE may be - for standard input)";
 
 /// What stops a command: a wrong call, or a message.
 enum Stop {
@@ -30,6 +32,9 @@ fn main() -> ExitCode {
     let arguments: Vec<String> =
         std::env::args_os().skip(1).map(|a| a.to_string_lossy().into_owned()).collect();
     let words: Vec<&str> = arguments.iter().map(|a| a.as_str()).collect();
+    if let ["explain", rest @ ..] = &words[..] {
+        return explain_file(rest).unwrap_or_else(explain_trouble);
+    }
     match run(&words) {
         Ok(()) => ExitCode::SUCCESS,
         Err(Stop::Usage) => {
@@ -41,6 +46,34 @@ fn main() -> ExitCode {
             ExitCode::FAILURE
         }
     }
+}
+
+/// Prints an explanation: status 0 for an accepted file, 1 for a refused one.
+fn explain_file(words: &[&str]) -> Result<ExitCode, Stop> {
+    let mut out = BufWriter::new(io::stdout().lock());
+    let (bytes, names) = match words {
+        ["-h" | "--help"] => {
+            writeln!(out, "{EXPLAIN_USAGE}")?;
+            return Ok(ExitCode::SUCCESS);
+        }
+        [file] => read_named(file, None)?,
+        [file, names] => read_named(file, Some(names))?,
+        _ => return Err(Stop::Usage),
+    };
+    let text = explain::explain(&bytes, &names);
+    out.write_all(text.as_bytes())?;
+    out.flush()?;
+    let accepted = text.lines().next() == Some("accepted");
+    Ok(if accepted { ExitCode::SUCCESS } else { ExitCode::from(1) })
+}
+
+/// Status 2 for whatever keeps a file from being explained.
+fn explain_trouble(stop: Stop) -> ExitCode {
+    match stop {
+        Stop::Usage => eprintln!("{EXPLAIN_USAGE}"),
+        Stop::Message(message) => eprintln!("explain: {message}"),
+    }
+    ExitCode::from(2)
 }
 
 fn run(words: &[&str]) -> Result<(), Stop> {
