@@ -70,3 +70,55 @@ fn wrong_calls_print_the_usage_and_end_with_2() {
     let missing = run(&["check", "no-such-file"], b"");
     assert_eq!(missing.status.code(), Some(1));
 }
+
+/// 0 for an accepted file, 1 for a refused one, 2 where there is nothing to explain.
+#[test]
+fn explanations_and_their_status() {
+    let accepted = run(&["explain", &sample("sample.cert")], b"");
+    assert_eq!(accepted.status.code(), Some(0));
+    assert!(accepted
+        .stdout
+        .starts_with(b"accepted\nThis explanation comes from the reference checker, which is not proved"));
+    let refused = run(&["explain", "-"], &std::fs::read(sample("cases/02.cert")).expect("the second case"));
+    assert_eq!((refused.status.code(), refused.stderr.len()), (Some(1), 0));
+    assert!(refused.stdout.starts_with(
+        b"refused 11 1\nThis explanation comes from the reference checker, which is not proved"
+    ));
+    assert_eq!(run(&["explain", "-"], b"").status.code(), Some(1));
+    for help in ["-h", "--help"] {
+        let output = run(&["explain", help], b"");
+        assert_eq!((output.status.code(), output.stderr.len()), (Some(0), 0));
+        assert!(
+            output.stdout.starts_with(b"usage: explain FILE [NAMES] ") && output.stdout.ends_with(b")\n")
+        );
+    }
+    for wrong in [&["explain"][..], &["explain", "a", "b", "c"]] {
+        let output = run(wrong, b"");
+        assert_eq!((output.status.code(), output.stdout.len()), (Some(2), 0));
+        assert!(output.stderr.starts_with(b"usage: explain FILE [NAMES] "), "{output:?}");
+    }
+    for missing in [&["explain", "no-such-file"][..], &["explain", &sample("sample.cert"), "no-such-file"]] {
+        let output = run(missing, b"");
+        assert_eq!((output.status.code(), output.stdout.len()), (Some(2), 0));
+        assert!(output.stderr.starts_with(b"explain: no-such-file: "), "{output:?}");
+    }
+}
+
+#[test]
+fn explanations_with_names() {
+    let named = printed_by(
+        &["explain", &sample("sample.cert"), "-"],
+        b"# names\nfact 1 right_open\naction 0 open_left\n",
+        0,
+    );
+    assert!(named.contains("one with {0 right_open} on"), "{named}");
+    let faulty = run(&["explain", &sample("sample.cert"), "-"], b"fact 1 right open\n");
+    assert_eq!((faulty.status.code(), faulty.stdout.len()), (Some(2), 0));
+    assert_eq!(faulty.stderr, b"explain: -: line 1: no name of a fact or action\n");
+}
+
+fn printed_by(arguments: &[&str], input: &[u8], status: i32) -> String {
+    let output = run(arguments, input);
+    assert_eq!(output.status.code(), Some(status), "{arguments:?}: {output:?}");
+    String::from_utf8(output.stdout).expect("text")
+}

@@ -11,6 +11,7 @@ use reference::draft::{Draft, DraftActions, DraftSet};
 use reference::file::{Clause, File, Step};
 use reference::pattern::{match_claim, parse, NO_LETTERS};
 use reference::rules::RULES;
+use reference::task::Action;
 use reference::Reply;
 
 /// The states of each state set and the actions of each action set, as tables.
@@ -65,16 +66,9 @@ impl Meaning {
 
     /// The states that actions of the set lead to from a state, fact by fact.
     fn leads(&self, actions: u16, from: u64) -> Vec<u64> {
-        let mut list = Vec::new();
-        for (a, action) in self.draft.actions.iter().enumerate() {
-            let on = |mask: u64, f: u8| mask >> f & 1 == 1;
-            let applies = (0..64).all(|f| !on(action.pre, f) || on(from, f));
-            if self.actions[actions as usize][a] && applies {
-                let after = |f: u8| on(action.add, f) || (on(from, f) && !on(action.del, f));
-                list.push((0..64).filter(|f| after(*f)).map(|f| 1u64 << f).sum());
-            }
-        }
-        list
+        let numbered = self.draft.actions.iter().enumerate();
+        let chosen = numbered.filter(|(a, _)| self.actions[actions as usize][*a]);
+        chosen.filter_map(|(_, action)| lead(action, from)).collect()
     }
 
     pub fn within(&self, e: u16, f: u16) -> bool {
@@ -97,6 +91,48 @@ impl Meaning {
         };
         let depths: Vec<(usize, bool)> = beneath.iter().map(|e| self.depth(*e)).collect();
         (depths.iter().map(|d| d.0).max().unwrap_or(0) + 1, depths.iter().any(|d| d.1))
+    }
+}
+
+/// The state that the action leads to, fact by fact; none where it does not apply.
+pub fn lead(action: &Action, from: u64) -> Option<u64> {
+    let on = |mask: u64, f: u8| mask >> f & 1 == 1;
+    let applies = (0..64).all(|f| !on(action.pre, f) || on(from, f));
+    let after = |f: u8| on(action.add, f) || (on(from, f) && !on(action.del, f));
+    applies.then(|| (0..64).filter(|f| after(*f)).map(|f| 1u64 << f).sum())
+}
+
+/// Whether the action is in an action set, by the meaning of its kind.
+pub fn has_action(draft: &Draft, set: u16, action: u16) -> bool {
+    match &draft.action_sets[set as usize] {
+        DraftActions::All => (action as usize) < draft.actions.len(),
+        DraftActions::List(list) => list.contains(&action),
+        DraftActions::Union(a, b) => has_action(draft, *a, action) || has_action(draft, *b, action),
+    }
+}
+
+/// Whether the state is in an entry, by the meaning of its kind, for any number of facts. That it is in a
+/// progression has to be shown by a state and an action that lead there.
+pub fn has_state(draft: &Draft, entry: u16, state: u64, from: Option<(u64, u16)>) -> bool {
+    let has = |e: u16, s: u64| has_state(draft, e, s, from);
+    match &draft.state_sets[entry as usize] {
+        DraftSet::Empty => false,
+        DraftSet::Init => state == draft.init,
+        DraftSet::Goal => draft.goal & !state == 0,
+        DraftSet::Explicit(states) => states.contains(&state),
+        DraftSet::Horn(clauses) | DraftSet::TwoCnf(clauses) => clauses.iter().all(|c| meets(c, state)),
+        DraftSet::Complement(s) => !has(*s, state),
+        DraftSet::Intersection(s, u) => has(*s, state) && has(*u, state),
+        DraftSet::Union(s, u) => has(*s, state) || has(*u, state),
+        DraftSet::Progression(s, a) => {
+            let (before, action) = from.expect("a state and an action that lead into the progression");
+            let led = lead(&draft.actions[action as usize], before);
+            has_action(draft, *a, action) && led == Some(state) && has_state(draft, *s, before, None)
+        }
+        DraftSet::Regression(s, a) => (0..draft.actions.len() as u16).any(|action| {
+            let led = lead(&draft.actions[action as usize], state);
+            has_action(draft, *a, action) && led.is_some_and(|led| has(*s, led))
+        }),
     }
 }
 
@@ -125,7 +161,7 @@ pub fn kind(set: &DraftSet) -> u8 {
 }
 
 /// The leaves of a tree of one compound kind, 7 or 8.
-fn leaves(draft: &Draft, root: u16, join: u8, list: &mut Vec<u16>) {
+pub fn leaves(draft: &Draft, root: u16, join: u8, list: &mut Vec<u16>) {
     match &draft.state_sets[root as usize] {
         DraftSet::Intersection(s, u) if join == 7 => {
             leaves(draft, *s, join, list);
@@ -140,7 +176,7 @@ fn leaves(draft: &Draft, root: u16, join: u8, list: &mut Vec<u16>) {
 }
 
 /// The kind of a literal and whether it is complemented; none for no literal.
-fn literal(draft: &Draft, entry: u16) -> Option<(u8, bool)> {
+pub fn literal(draft: &Draft, entry: u16) -> Option<(u8, bool)> {
     let set = &draft.state_sets[entry as usize];
     match set {
         DraftSet::Complement(s) => {

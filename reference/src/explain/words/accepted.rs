@@ -1,9 +1,11 @@
 //! An accepted file in words: the invariant, the dead sets in turn, and the steps by their rules.
 
+use std::collections::BTreeSet;
+
 use super::text::{counted, Text};
 use crate::draft::DraftSet;
 use crate::explain::accepted::{closure, Argument, Closure};
-use crate::file::File;
+use crate::file::{File, StateSet};
 use crate::rules::by_number;
 
 /// The argument in lines.
@@ -24,6 +26,7 @@ pub fn words(text: &Text, file: &File, argument: &Argument) -> Vec<String> {
     let set = text.set(file.steps[premise as usize].entries[0]);
     let by = format!("step {last} {}", rule_name(file, last));
     lines.push(format!("So the task is unsolvable, by {by}: {set} is dead (step {premise})."));
+    lines.extend(parts(text, file, argument));
     lines.push(String::new());
     lines.extend(counts(file, argument));
     lines
@@ -90,6 +93,31 @@ fn reason(file: &File, number: usize) -> String {
         10 => format!("{leaving}; init is in set {set} (step {r}), so nothing outside it is reached but through set {rest}"),
         11 => format!("{entering}; the goal states outside it, set {}, are dead (step {r})", named(2, 0)),
         _ => format!("{entering}; init is not in set {set} (step {r}), so it is never reached but through set {rest}"),
+    }
+}
+
+/// The state sets that the told ones are made of and that are not told themselves.
+fn parts(text: &Text, file: &File, argument: &Argument) -> Vec<String> {
+    let mut told: BTreeSet<u16> = argument.dead.iter().map(|(_, set)| *set).collect();
+    told.extend(argument.closures.iter().flat_map(|c| [c.set, c.rest]));
+    let mut open: Vec<u16> = told.iter().copied().collect();
+    let mut parts = BTreeSet::new();
+    while let Some(entry) = open.pop() {
+        let named = named_by(file.state_sets[entry as usize]);
+        open.extend(named.into_iter().filter(|part| !told.contains(part) && parts.insert(*part)));
+    }
+    let lines = parts.iter().map(|part| format!("  {}", text.set(*part)));
+    let head = (!parts.is_empty()).then(|| "Parts of these sets:".to_string());
+    head.into_iter().chain(lines).collect()
+}
+
+/// The state sets that an entry is made of.
+fn named_by(set: StateSet) -> Vec<u16> {
+    use StateSet::*;
+    match set {
+        Empty | Init | Goal | Explicit(_) | Horn(_) | TwoCnf(_) => Vec::new(),
+        Complement(s) | Progression(s, _) | Regression(s, _) => vec![s],
+        Intersection(s, u) | Union(s, u) => vec![s, u],
     }
 }
 

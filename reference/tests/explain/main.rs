@@ -1,0 +1,72 @@
+//! Explanations held to the meaning: what is told of thousands of generated files is looked at again
+//! by code that shares nothing with the search that found it.
+
+mod accepted;
+#[path = "../common/mod.rs"]
+mod common;
+mod fields;
+mod golden;
+mod layout;
+mod pattern;
+mod shape;
+mod untrue;
+
+use std::collections::BTreeMap;
+use std::fmt::Debug;
+
+use reference::draft::Draft;
+use reference::explain::{explain, why, Why};
+use reference::file::Step;
+use reference::names::Names;
+use reference::{check, Reply};
+
+/// How often each thing was met.
+struct Tally<T>(BTreeMap<T, usize>);
+
+impl<T: Ord + Debug> Tally<T> {
+    fn new() -> Tally<T> {
+        Tally(BTreeMap::new())
+    }
+
+    fn add(&mut self, thing: T) {
+        *self.0.entry(thing).or_default() += 1;
+    }
+
+    /// Each of these was met so often, so that the test is about something.
+    fn each_at_least(&self, least: usize, things: impl IntoIterator<Item = T>) {
+        for thing in things {
+            let count = self.0.get(&thing).copied().unwrap_or(0);
+            assert!(count >= least, "{thing:?} was met {count} times: {:?}", self.0);
+        }
+    }
+}
+
+/// An explanation: the reply, the reason as a value, and the text. The reply is the check's.
+struct Explained {
+    reply: Reply,
+    why: Why,
+    text: String,
+}
+
+fn explained(bytes: &[u8]) -> Explained {
+    let (reply, why) = why(bytes);
+    let text = explain(bytes, &Names::default());
+    assert_eq!(reply, check(bytes));
+    assert_ne!(why, Why::Unknown, "{text}");
+    assert!(text.starts_with(&format!(
+        "{reply}\nThis explanation comes from the reference checker, which is not proved;"
+    )));
+    Explained { reply, why, text }
+}
+
+/// The explanation of a file with this one step.
+fn explained_step(draft: &mut Draft, step: Step) -> Explained {
+    draft.steps = vec![step];
+    explained(&draft.encode())
+}
+
+/// A list of facts as explanations write it.
+fn facts(mask: u64) -> String {
+    let names: Vec<String> = (0..64).filter(|f| mask >> f & 1 == 1).map(|f| f.to_string()).collect();
+    format!("{{{}}}", names.join(" "))
+}

@@ -1,0 +1,229 @@
+//! Reply 10: the leaf, count, kind or form that is told really is not permitted, looked at again by
+//! plain recursion over the sets.
+
+use crate::common::{kind, leaves, literal};
+use crate::{explained, explained_step, Tally};
+use reference::draft::{Draft, DraftSet};
+use reference::explain::shape::{Leaf, ShapeFault, Side};
+use reference::explain::Why;
+use reference::file::Step;
+use reference::generate::applications::{add_compounds, add_pool, basic};
+use reference::generate::builder::Builder;
+use reference::generate::limits::many_state_sets;
+use reference::generate::random::Random;
+use reference::generate::tasks;
+use reference::Reply;
+
+/// A step of a file and the trees of its two sides.
+struct Statement<'a> {
+    draft: &'a Draft,
+    rule: u8,
+    left: Vec<u16>,
+    right: Vec<u16>,
+}
+
+impl Statement<'_> {
+    fn of<'a>(draft: &'a Draft, step: &Step) -> Statement<'a> {
+        let (mut left, mut right) = (Vec::new(), Vec::new());
+        leaves(draft, step.entries[0], 7, &mut left);
+        leaves(draft, step.entries[1], 8, &mut right);
+        if step.rule == 4 {
+            (left, right) = (vec![step.entries[0]], vec![step.entries[1]]);
+        }
+        Statement { draft, rule: step.rule, left, right }
+    }
+
+    fn side(&self, side: Side) -> &[u16] {
+        match side {
+            Side::Left => &self.left,
+            Side::Right => &self.right,
+        }
+    }
+
+    /// The set in the brackets of a progression for B2, of a regression for B3.
+    fn bracketed(&self, entry: u16) -> Option<u16> {
+        match (self.rule, &self.draft.state_sets[entry as usize]) {
+            (2, DraftSet::Progression(s, _)) | (3, DraftSet::Regression(s, _)) => Some(*s),
+            _ => None,
+        }
+    }
+
+    /// The left leaves that are brackets.
+    fn brackets(&self) -> Vec<u16> {
+        self.left.iter().copied().filter(|leaf| self.bracketed(*leaf).is_some()).collect()
+    }
+
+    /// The leaves inside all brackets.
+    fn inside(&self) -> Vec<u16> {
+        let mut list = Vec::new();
+        for set in self.left.iter().filter_map(|leaf| self.bracketed(*leaf)) {
+            leaves(self.draft, set, 7, &mut list);
+        }
+        list
+    }
+
+    /// The kind of a literal, without its complement.
+    fn kind(&self, entry: u16) -> u8 {
+        literal(self.draft, entry).expect("a literal").0
+    }
+
+    fn complemented(&self, entry: u16) -> bool {
+        literal(self.draft, entry).expect("a literal").1
+    }
+
+    /// The literals that end up on a side once complements have moved: those of the side itself that
+    /// are no complements, and those of the other that are.
+    fn moved(&self, side: Side) -> Vec<u16> {
+        let outside = |side| self.side(side).iter().copied().filter(|leaf| self.bracketed(*leaf).is_none());
+        let (here, there) = match side {
+            Side::Left => (Side::Left, Side::Right),
+            Side::Right => (Side::Right, Side::Left),
+        };
+        let stay = outside(here).filter(|leaf| !self.complemented(*leaf));
+        stay.chain(outside(there).filter(|leaf| self.complemented(*leaf))).collect()
+    }
+
+    /// All literals, those inside brackets too.
+    fn literals(&self) -> Vec<u16> {
+        let left = self.left.iter().copied().filter(|leaf| self.bracketed(*leaf).is_none());
+        left.chain(self.inside()).chain(self.right.iter().copied()).collect()
+    }
+}
+
+fn entries(leaves: &[Leaf]) -> Vec<u16> {
+    sorted(leaves.iter().map(|leaf| leaf.entry).collect())
+}
+
+fn sorted(mut list: Vec<u16>) -> Vec<u16> {
+    list.sort_unstable();
+    list
+}
+
+/// Whether what is told of B1 to B3 is so.
+fn is_so(st: &Statement, fault: &ShapeFault) -> bool {
+    let special = |leaf: &u16| (3..=5).contains(&st.kind(*leaf));
+    let lists = || st.literals().iter().any(|leaf| st.kind(*leaf) == 3);
+    match fault {
+        ShapeFault::TooManyLeaves { side, outside, inside } => {
+            let within = if *side == Side::Left { st.inside().len() } else { 0 };
+            let brackets = if *side == Side::Left { st.brackets().len() } else { 0 };
+            (*outside, *inside) == (st.side(*side).len() - brackets, within) && outside + inside > 8
+        }
+        ShapeFault::NoLiteral { side, leaf } => {
+            let bracket = *side == Side::Left && st.bracketed(*leaf).is_some();
+            st.side(*side).contains(leaf) && literal(st.draft, *leaf).is_none() && !bracket
+        }
+        ShapeFault::NoBracket => st.rule != 1 && st.brackets().is_empty(),
+        ShapeFault::TwoBrackets { first, second } => {
+            st.brackets().len() > 1 && st.brackets()[..2] == [*first, *second]
+        }
+        ShapeFault::Inside { bracket, leaf } => {
+            let mut inside = Vec::new();
+            leaves(st.draft, st.bracketed(*bracket).expect("a bracket"), 7, &mut inside);
+            st.left.contains(bracket)
+                && inside.contains(leaf)
+                && kind(&st.draft.state_sets[*leaf as usize]) > 5
+        }
+        ShapeFault::KindsMeet { first, second } => {
+            let [first, second] = [first.entry, second.entry];
+            let there = |leaf: &u16| st.literals().contains(leaf) && special(leaf);
+            there(&first) && there(&second) && st.kind(first) != st.kind(second)
+        }
+        ShapeFault::TooManyRight { leaves } => {
+            let right = st.moved(Side::Right).into_iter().filter(|leaf| st.kind(*leaf) != 0);
+            leaves.len() > 2 && entries(leaves) == sorted(right.collect()) && !lists()
+        }
+        ShapeFault::NoListed { leaves } => {
+            let there = if st.rule == 2 { st.inside() } else { st.moved(Side::Left) };
+            let listed = there.iter().any(|leaf| [0, 1, 3].contains(&st.kind(*leaf)));
+            entries(leaves) == sorted(there) && !listed && lists()
+        }
+        _ => false,
+    }
+}
+
+/// Whether what is told of B4 is so.
+fn is_so_of_pair(st: &Statement, fault: &ShapeFault) -> bool {
+    let told = |leaf: &Leaf, entry: u16| leaf.entry == entry && leaf.complemented == st.complemented(entry);
+    let (left, right) = (st.left[0], st.right[0]);
+    match fault {
+        ShapeFault::NoLiteral { side, leaf } => {
+            st.side(*side) == [*leaf] && literal(st.draft, *leaf).is_none()
+        }
+        ShapeFault::PairKind { side, leaf } => st.side(*side) == [leaf.entry] && st.kind(leaf.entry) < 3,
+        ShapeFault::PairAlike { left: x, right: y } => {
+            told(x, left) && told(y, right) && st.kind(left) == st.kind(right)
+        }
+        ShapeFault::PairList { list } => {
+            let on_the_right = if list.complemented { left } else { right };
+            told(list, on_the_right) && st.kind(on_the_right) == 3
+        }
+        ShapeFault::PairDisjoint { left: x, right: y } => {
+            let clauses = [left, right].iter().all(|leaf| [4, 5].contains(&st.kind(*leaf)));
+            told(x, left) && told(y, right) && clauses && !x.complemented && y.complemented
+        }
+        _ => false,
+    }
+}
+
+fn name(fault: &ShapeFault) -> String {
+    format!("{fault:?}").split([' ', '{']).next().unwrap_or("").to_string()
+}
+
+#[test]
+fn what_is_told_is_not_permitted() {
+    let mut seen: Tally<(bool, String)> = Tally::new();
+    for seed in 0..3000 {
+        let mut random = Random::new(seed);
+        let (task, _) = tasks::reachable(&mut random, 4, 16);
+        let mut b = Builder::new(task, &mut random);
+        add_pool(&mut b);
+        add_pool(&mut b);
+        for _ in 0..6 {
+            let (rule, judgement) = basic(&mut b);
+            b.step(rule, judgement, &[]);
+        }
+        add_compounds(&mut b, 8);
+        // Any two entries at all.
+        for _ in 0..3 {
+            let sets = b.file.state_sets.len();
+            let [e, f] = [b.random.below(sets), b.random.below(sets)].map(|e| e as u16);
+            let rule = b.random.between(1, 4) as u8;
+            b.step(rule, reference::file::Judgement::Within(e, f), &[]);
+        }
+        let mut draft = Draft::of(&b.file);
+        for step in b.file.steps {
+            let explained = explained_step(&mut draft, step);
+            let Why::Shape(fault) = &explained.why else {
+                assert!(!matches!(explained.reply, Reply::Refused { number: 10, .. }));
+                continue;
+            };
+            let st = Statement::of(&draft, &step);
+            let so = if step.rule == 4 { is_so_of_pair(&st, fault) } else { is_so(&st, fault) };
+            assert!(so, "{fault:?}\n{}", explained.text);
+            seen.add((step.rule == 4, name(fault)));
+        }
+    }
+    let many = [
+        "TooManyLeaves",
+        "NoLiteral",
+        "NoBracket",
+        "TwoBrackets",
+        "Inside",
+        "KindsMeet",
+        "TooManyRight",
+        "NoListed",
+    ];
+    seen.each_at_least(40, many.map(|name| (false, name.to_string())));
+    let pair = ["NoLiteral", "PairKind", "PairAlike", "PairList", "PairDisjoint"];
+    seen.each_at_least(40, pair.map(|name| (true, name.to_string())));
+}
+
+/// A tree of two to the power 505 leaves: they are counted, and not gone through.
+#[test]
+fn leaves_without_number() {
+    let explained = explained(&many_state_sets(0));
+    let many = ShapeFault::TooManyLeaves { side: Side::Left, outside: 1_000_000, inside: 0 };
+    assert_eq!(explained.why, Why::Shape(many));
+    assert!(explained.text.contains("The left side has at least 1000000 leaves; at most 8 are permitted.\n"));
+}
