@@ -8,7 +8,7 @@ use crate::{explained, explained_step, facts, Explained, Tally};
 use reference::draft::{Draft, DraftSet};
 use reference::explain::counterexample::Counterexample;
 use reference::explain::Why;
-use reference::file::{Judgement, StateSet, Step};
+use reference::file::{Clause, Judgement, StateSet, Step};
 use reference::generate::applications::{add_pool, basic};
 use reference::generate::builder::Builder;
 use reference::generate::random::Random;
@@ -108,6 +108,17 @@ fn examine(draft: &Draft, step: &Step, explained: &Explained) -> bool {
     untrue
 }
 
+/// Explains each step by itself; gives the file and the steps that are untrue.
+fn untrue_steps(b: Builder) -> (Draft, Vec<Step>) {
+    let mut draft = Draft::of(&b.file);
+    let untrue = |step: &Step| {
+        let explained = explained_step(&mut draft, *step);
+        examine(&draft, step, &explained)
+    };
+    let steps = b.file.steps.into_iter().filter(untrue).collect();
+    (draft, steps)
+}
+
 /// The kinds among 3 to 5 at or beneath the entries.
 fn kinds(draft: &Draft, entries: &[u16], found: &mut [bool; 11]) {
     for entry in entries {
@@ -154,13 +165,8 @@ fn statements_over_few_and_many_facts() {
             let (rule, judgement) = basic(&mut b);
             b.step(rule, judgement, &[]);
         }
-        let mut draft = Draft::of(&b.file);
-        for step in b.file.steps {
-            let explained = explained_step(&mut draft, step);
-            if examine(&draft, &step, &explained) {
-                seen.add((step.rule, label(&draft, &step), n > FEW));
-            }
-        }
+        let (draft, steps) = untrue_steps(b);
+        steps.iter().for_each(|step| seen.add((step.rule, label(&draft, step), n > FEW)));
     }
     for many in [false, true] {
         for rule in [1, 2, 3] {
@@ -202,13 +208,7 @@ fn listed_states() {
         for (rule, left, right) in statements {
             b.step(rule, Judgement::Within(left, right), &[]);
         }
-        let mut draft = Draft::of(&b.file);
-        for step in b.file.steps {
-            let explained = explained_step(&mut draft, step);
-            if examine(&draft, &step, &explained) {
-                seen.add((step.rule, n > FEW));
-            }
-        }
+        untrue_steps(b).1.iter().for_each(|step| seen.add((step.rule, n > FEW)));
     }
     seen.each_at_least(100, [2, 3].into_iter().flat_map(|rule| [(rule, false), (rule, true)]));
 }
@@ -233,15 +233,13 @@ fn dense_clause_sets() {
         let (method, kind): (_, fn(_) -> _) =
             if two { (Method::TwoCnf, StateSet::TwoCnf) } else { (Method::Horn, StateSet::Horn) };
         let most = if n > FEW { n as usize } else { 9 };
-        let sets: Vec<u16> = (0..3)
-            .map(|_| {
-                let size = b.random.between(1, most);
-                let facts = all_facts(n);
-                let mut clauses: Vec<_> = (0..size).map(|_| tasks::clause(b.random, method, facts)).collect();
-                clauses.retain(|c| c.positive.count_ones() + c.negative.count_ones() > 1);
-                b.clauses(kind, &clauses)
-            })
-            .collect();
+        let sets = [0; 3].map(|_| {
+            let size = b.random.between(1, most);
+            let mut clauses: Vec<_> =
+                (0..size).map(|_| tasks::clause(b.random, method, all_facts(n))).collect();
+            clauses.retain(|c| c.positive.count_ones() + c.negative.count_ones() > 1);
+            b.clauses(kind, &clauses)
+        });
         let either = b.or(sets[1], sets[2]);
         let (led, from) = (b.set(StateSet::Progression(sets[0], 0)), b.set(StateSet::Regression(sets[0], 0)));
         for (rule, left) in [(1, sets[0]), (2, led), (3, from)] {
@@ -249,16 +247,41 @@ fn dense_clause_sets() {
                 b.step(rule, Judgement::Within(left, right), &[]);
             }
         }
-        let mut draft = Draft::of(&b.file);
-        for step in b.file.steps {
-            let explained = explained_step(&mut draft, step);
-            if examine(&draft, &step, &explained) {
-                seen.add((two, step.rule, n > FEW));
-            }
-        }
+        untrue_steps(b).1.iter().for_each(|step| seen.add((two, step.rule, n > FEW)));
     }
     let all = |two| (1..=3).flat_map(move |rule| [false, true].map(|many| (two, rule, many)));
     seen.each_at_least(60, all(false).chain(all(true)));
+}
+
+/// All four clauses over two facts have no state in common, and none of them is a unit. Some are said of
+/// the state before an action and the others of the one after it: the first actions, which leave the
+/// two facts alone, have no counterexample.
+#[test]
+fn models_that_only_later_actions_have() {
+    let mut seen: Tally<u8> = Tally::new();
+    for seed in 0..600 {
+        let mut random = Random::new(seed);
+        let n = random.between(2, 64) as u8;
+        let (mut task, _) = tasks::reachable(&mut random, n, 8);
+        let x = random.bit(all_facts(n));
+        let y = random.bit(all_facts(n) & !x);
+        task.actions = (0..3).map(|_| tasks::action(&mut random, all_facts(n) & !(x | y))).collect();
+        task.actions.extend((0..2).map(|_| tasks::action(&mut random, all_facts(n))));
+        let four = [0, x, y, x | y].map(|positive| Clause { positive, negative: (x | y) & !positive });
+        let mut b = Builder::new(task, &mut random);
+        let dealt = b.random.between(1, 14);
+        let part = |before: usize| {
+            (0..4).filter(move |k| dealt >> k & 1 == before).map(|k| four[k]).collect::<Vec<_>>()
+        };
+        let (first, second) = (b.clauses(StateSet::TwoCnf, &part(1)), b.clauses(StateSet::TwoCnf, &part(0)));
+        for (rule, bracket) in [(2, StateSet::Progression(first, 0)), (3, StateSet::Regression(first, 0))] {
+            let bracket = b.set(bracket);
+            let left = b.and(second, bracket);
+            b.step(rule, Judgement::Within(left, 0), &[]);
+        }
+        untrue_steps(b).1.iter().for_each(|step| seen.add(step.rule));
+    }
+    seen.each_at_least(100, [2, 3]);
 }
 
 #[test]
