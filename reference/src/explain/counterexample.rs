@@ -5,7 +5,6 @@
 use super::shape::{sides, Leaf};
 use crate::clauses::{propagate_units, pulled, Known};
 use crate::file::{marked, marked_actions, Clause, File, StateSet, Step};
-use crate::shape::is_listed;
 use crate::task::{Action, State};
 
 /// What shows that a statement is untrue.
@@ -84,10 +83,14 @@ impl<'a> Statement<'a> {
 
     /// The states of the smallest set of `before` that gives its states one by one, if there is one.
     fn listing(&self) -> Option<&[State]> {
-        let listed = self.before.iter().filter(|set| is_listed(set)).map(|set| match set {
-            StateSet::Init => std::slice::from_ref(&self.file.task.init),
-            StateSet::Explicit(span) => span.of(&self.file.states),
-            _ => &[],
+        let listed = self.before.iter().filter_map(|set| match set {
+            StateSet::Empty => Some(&[][..]),
+            StateSet::Init => Some(std::slice::from_ref(&self.file.task.init)),
+            StateSet::Explicit(span) => Some(span.of(&self.file.states)),
+            StateSet::Goal | StateSet::Horn(_) | StateSet::TwoCnf(_) => None,
+            // No leaf is of these kinds.
+            StateSet::Complement(_) | StateSet::Intersection(..) | StateSet::Union(..) => None,
+            StateSet::Progression(..) | StateSet::Regression(..) => None,
         });
         listed.min_by_key(|states| states.len())
     }
@@ -141,7 +144,10 @@ impl Statement<'_> {
             StateSet::Init => Some(on(task.init).chain(off(task.all_facts() & !task.init)).collect()),
             StateSet::Goal => Some(on(task.goal).collect()),
             StateSet::Horn(span) | StateSet::TwoCnf(span) => Some(span.of(&self.file.clauses).to_vec()),
-            _ => None,
+            StateSet::Empty | StateSet::Explicit(_) => None,
+            // No leaf is of these kinds.
+            StateSet::Complement(_) | StateSet::Intersection(..) | StateSet::Union(..) => None,
+            StateSet::Progression(..) | StateSet::Regression(..) => None,
         }
     }
 }

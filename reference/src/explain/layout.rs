@@ -1,5 +1,4 @@
-//! Replies 1 to 7: the field with the fault, what it holds and what it may hold, and the text form of
-//! everything that stands before it.
+//! Replies 1 to 7: the field with the fault, what it holds and what it may hold.
 
 use std::ops::Range;
 

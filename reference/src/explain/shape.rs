@@ -79,14 +79,21 @@ pub enum ShapeFault {
     TooManyRight { leaves: Vec<Leaf> },
     /// Over listed states: none of these leaves, where one must, is of kind 0, 1 or 3.
     NoListed { leaves: Vec<Leaf> },
-    /// B4: a leaf that is not of kinds 3 to 5.
-    PairKind { side: Side, leaf: Leaf },
-    /// B4: two leaves of one kind.
-    PairAlike { left: Leaf, right: Leaf },
-    /// B4: the list of states stands on the moved right.
-    PairList { list: Leaf },
-    /// B4: a set of clauses within the complement of another.
-    PairDisjoint { left: Leaf, right: Leaf },
+    /// B4: the two literals do not go together.
+    Pair(PairFault),
+}
+
+/// Why two literals are no statement of B4.
+#[derive(Clone, Copy, Debug, PartialEq, Eq)]
+pub enum PairFault {
+    /// One that is not of kinds 3 to 5.
+    Kind { side: Side, leaf: Leaf },
+    /// Two of one kind.
+    Alike { left: Leaf, right: Leaf },
+    /// The list of states stands on the moved right.
+    List { list: Leaf },
+    /// A set of clauses within the complement of another.
+    Disjoint { left: Leaf, right: Leaf },
 }
 
 /// The leaves of a step of B1 to B4, or why its shape is not permitted.
@@ -94,7 +101,7 @@ pub fn sides(file: &File, step: &Step) -> Result<Sides, ShapeFault> {
     let [left, right] = step.entries;
     if step.rule == 4 {
         let (left, right) = (literal(file, Side::Left, left)?, literal(file, Side::Right, right)?);
-        pair(file, left, right)?;
+        pair(file, left, right).map_err(ShapeFault::Pair)?;
         return Ok(Sides { left: vec![left], bracket: None, right: vec![right] });
     }
     count_leaves(file, step)?;
@@ -254,24 +261,24 @@ fn kinds(file: &File, rule: u8, sides: &Sides) -> Result<(), ShapeFault> {
 }
 
 /// B4: two literals of different kinds among 3, 4 and 5, in a permitted form.
-fn pair(file: &File, left: Leaf, right: Leaf) -> Result<(), ShapeFault> {
+fn pair(file: &File, left: Leaf, right: Leaf) -> Result<(), PairFault> {
     let Some(first) = special(file, &left) else {
-        return Err(ShapeFault::PairKind { side: Side::Left, leaf: left });
+        return Err(PairFault::Kind { side: Side::Left, leaf: left });
     };
     let Some(second) = special(file, &right) else {
-        return Err(ShapeFault::PairKind { side: Side::Right, leaf: right });
+        return Err(PairFault::Kind { side: Side::Right, leaf: right });
     };
     if first == second {
-        return Err(ShapeFault::PairAlike { left, right });
+        return Err(PairFault::Alike { left, right });
     }
     if first == 3 && left.complemented {
-        return Err(ShapeFault::PairList { list: left });
+        return Err(PairFault::List { list: left });
     }
     if second == 3 && !right.complemented {
-        return Err(ShapeFault::PairList { list: right });
+        return Err(PairFault::List { list: right });
     }
     if first != 3 && second != 3 && !left.complemented && right.complemented {
-        return Err(ShapeFault::PairDisjoint { left, right });
+        return Err(PairFault::Disjoint { left, right });
     }
     Ok(())
 }

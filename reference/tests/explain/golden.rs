@@ -54,6 +54,7 @@ fn facts_and_actions_by_name() {
         text.contains("\ngoal {left_open right_open}\naction 0 pre {} add {left_open} del {right_open}\n"),
         "{text}"
     );
+    assert!(text.contains(" action 1 (open_right), its add mask.\n"), "{text}");
     assert!(
         text.contains("It holds 0x6: facts {right_open 2}, of which the task does not have {2}.\n"),
         "{text}"

@@ -4,9 +4,9 @@
 use crate::common::{kind, leaves, literal};
 use crate::{explained, explained_step, Tally};
 use reference::draft::{Draft, DraftSet};
-use reference::explain::shape::{Leaf, ShapeFault, Side};
+use reference::explain::shape::{Leaf, PairFault, ShapeFault, Side};
 use reference::explain::Why;
-use reference::file::Step;
+use reference::file::{Judgement, Step};
 use reference::generate::applications::{add_compounds, add_pool, basic};
 use reference::generate::builder::Builder;
 use reference::generate::limits::many_state_sets;
@@ -83,6 +83,11 @@ impl Statement<'_> {
         stay.chain(outside(there).filter(|leaf| self.complemented(*leaf))).collect()
     }
 
+    /// Whether a list of states is in the statement.
+    fn has_list(&self) -> bool {
+        self.literals().iter().any(|leaf| self.kind(*leaf) == 3)
+    }
+
     /// All literals, those inside brackets too.
     fn literals(&self) -> Vec<u16> {
         let left = self.left.iter().copied().filter(|leaf| self.bracketed(*leaf).is_none());
@@ -99,10 +104,8 @@ fn sorted(mut list: Vec<u16>) -> Vec<u16> {
     list
 }
 
-/// Whether what is told of B1 to B3 is so.
+/// Whether what is told is so.
 fn is_so(st: &Statement, fault: &ShapeFault) -> bool {
-    let special = |leaf: &u16| (3..=5).contains(&st.kind(*leaf));
-    let lists = || st.literals().iter().any(|leaf| st.kind(*leaf) == 3);
     match fault {
         ShapeFault::TooManyLeaves { side, outside, inside } => {
             let within = if *side == Side::Left { st.inside().len() } else { 0 };
@@ -113,110 +116,123 @@ fn is_so(st: &Statement, fault: &ShapeFault) -> bool {
             let bracket = *side == Side::Left && st.bracketed(*leaf).is_some();
             st.side(*side).contains(leaf) && literal(st.draft, *leaf).is_none() && !bracket
         }
-        ShapeFault::NoBracket => st.rule != 1 && st.brackets().is_empty(),
-        ShapeFault::TwoBrackets { first, second } => {
-            st.brackets().len() > 1 && st.brackets()[..2] == [*first, *second]
-        }
+        ShapeFault::NoBracket => [2, 3].contains(&st.rule) && st.brackets().is_empty(),
+        ShapeFault::TwoBrackets { first, second } => st.brackets().get(..2) == Some(&[*first, *second]),
         ShapeFault::Inside { bracket, leaf } => {
             let mut inside = Vec::new();
             leaves(st.draft, st.bracketed(*bracket).expect("a bracket"), 7, &mut inside);
-            st.left.contains(bracket)
-                && inside.contains(leaf)
-                && kind(&st.draft.state_sets[*leaf as usize]) > 5
+            let no_base = kind(&st.draft.state_sets[*leaf as usize]) > 5;
+            st.left.contains(bracket) && inside.contains(leaf) && no_base
         }
-        ShapeFault::KindsMeet { first, second } => {
-            let [first, second] = [first.entry, second.entry];
-            let there = |leaf: &u16| st.literals().contains(leaf) && special(leaf);
-            there(&first) && there(&second) && st.kind(first) != st.kind(second)
-        }
+        ShapeFault::KindsMeet { first, second } => kinds_meet(st, first.entry, second.entry),
         ShapeFault::TooManyRight { leaves } => {
             let right = st.moved(Side::Right).into_iter().filter(|leaf| st.kind(*leaf) != 0);
-            leaves.len() > 2 && entries(leaves) == sorted(right.collect()) && !lists()
+            leaves.len() > 2 && entries(leaves) == sorted(right.collect()) && !st.has_list()
         }
         ShapeFault::NoListed { leaves } => {
             let there = if st.rule == 2 { st.inside() } else { st.moved(Side::Left) };
             let listed = there.iter().any(|leaf| [0, 1, 3].contains(&st.kind(*leaf)));
-            entries(leaves) == sorted(there) && !listed && lists()
+            entries(leaves) == sorted(there) && !listed && st.has_list()
         }
-        _ => false,
+        ShapeFault::Pair(fault) => st.rule == 4 && pair_is_so(st, fault),
     }
 }
 
-/// Whether what is told of B4 is so.
-fn is_so_of_pair(st: &Statement, fault: &ShapeFault) -> bool {
+fn kinds_meet(st: &Statement, first: u16, second: u16) -> bool {
+    let there = |leaf: u16| st.literals().contains(&leaf) && (3..=5).contains(&st.kind(leaf));
+    there(first) && there(second) && st.kind(first) != st.kind(second)
+}
+
+/// Whether what is told of two literals is so.
+fn pair_is_so(st: &Statement, fault: &PairFault) -> bool {
     let told = |leaf: &Leaf, entry: u16| leaf.entry == entry && leaf.complemented == st.complemented(entry);
     let (left, right) = (st.left[0], st.right[0]);
     match fault {
-        ShapeFault::NoLiteral { side, leaf } => {
-            st.side(*side) == [*leaf] && literal(st.draft, *leaf).is_none()
-        }
-        ShapeFault::PairKind { side, leaf } => st.side(*side) == [leaf.entry] && st.kind(leaf.entry) < 3,
-        ShapeFault::PairAlike { left: x, right: y } => {
+        PairFault::Kind { side, leaf } => st.side(*side) == [leaf.entry] && st.kind(leaf.entry) < 3,
+        PairFault::Alike { left: x, right: y } => {
             told(x, left) && told(y, right) && st.kind(left) == st.kind(right)
         }
-        ShapeFault::PairList { list } => {
+        PairFault::List { list } => {
             let on_the_right = if list.complemented { left } else { right };
             told(list, on_the_right) && st.kind(on_the_right) == 3
         }
-        ShapeFault::PairDisjoint { left: x, right: y } => {
+        PairFault::Disjoint { left: x, right: y } => {
             let clauses = [left, right].iter().all(|leaf| [4, 5].contains(&st.kind(*leaf)));
             told(x, left) && told(y, right) && clauses && !x.complemented && y.complemented
         }
-        _ => false,
     }
 }
 
-fn name(fault: &ShapeFault) -> String {
-    format!("{fault:?}").split([' ', '{']).next().unwrap_or("").to_string()
+/// The fault's name, and the entries that the text has to name.
+fn named(fault: &ShapeFault) -> (&'static str, Vec<u16>) {
+    match fault {
+        ShapeFault::TooManyLeaves { .. } => ("too many leaves", vec![]),
+        ShapeFault::NoLiteral { leaf, .. } => ("no literal", vec![*leaf]),
+        ShapeFault::NoBracket => ("no bracket", vec![]),
+        ShapeFault::TwoBrackets { first, second } => ("two brackets", vec![*first, *second]),
+        ShapeFault::Inside { bracket, leaf } => ("inside", vec![*bracket, *leaf]),
+        ShapeFault::KindsMeet { first, second } => ("kinds meet", vec![first.entry, second.entry]),
+        ShapeFault::TooManyRight { leaves } => ("too many right", leaves.iter().map(|l| l.base).collect()),
+        ShapeFault::NoListed { leaves } => ("no listed", leaves.iter().map(|l| l.base).collect()),
+        ShapeFault::Pair(PairFault::Kind { leaf, .. }) => ("pair kind", vec![leaf.entry]),
+        ShapeFault::Pair(PairFault::Alike { left, right }) => ("pair alike", vec![left.entry, right.entry]),
+        ShapeFault::Pair(PairFault::List { list }) => ("pair list", vec![list.base]),
+        ShapeFault::Pair(PairFault::Disjoint { left, right }) => {
+            ("pair disjoint", vec![left.entry, right.entry])
+        }
+    }
+}
+
+/// Basic statements of all shapes, and any two entries at all.
+fn statements(seed: u64) -> (Draft, Vec<Step>) {
+    let mut random = Random::new(seed);
+    let (task, _) = tasks::reachable(&mut random, 4, 16);
+    let mut b = Builder::new(task, &mut random);
+    add_pool(&mut b);
+    add_pool(&mut b);
+    for _ in 0..6 {
+        let (rule, judgement) = basic(&mut b);
+        b.step(rule, judgement, &[]);
+    }
+    add_compounds(&mut b, 8);
+    for _ in 0..3 {
+        let sets = b.file.state_sets.len();
+        let [e, f] = [b.random.below(sets), b.random.below(sets)].map(|e| e as u16);
+        let rule = b.random.between(1, 4) as u8;
+        b.step(rule, Judgement::Within(e, f), &[]);
+    }
+    (Draft::of(&b.file), b.file.steps)
 }
 
 #[test]
 fn what_is_told_is_not_permitted() {
-    let mut seen: Tally<(bool, String)> = Tally::new();
-    for seed in 0..3000 {
-        let mut random = Random::new(seed);
-        let (task, _) = tasks::reachable(&mut random, 4, 16);
-        let mut b = Builder::new(task, &mut random);
-        add_pool(&mut b);
-        add_pool(&mut b);
-        for _ in 0..6 {
-            let (rule, judgement) = basic(&mut b);
-            b.step(rule, judgement, &[]);
-        }
-        add_compounds(&mut b, 8);
-        // Any two entries at all.
-        for _ in 0..3 {
-            let sets = b.file.state_sets.len();
-            let [e, f] = [b.random.below(sets), b.random.below(sets)].map(|e| e as u16);
-            let rule = b.random.between(1, 4) as u8;
-            b.step(rule, reference::file::Judgement::Within(e, f), &[]);
-        }
-        let mut draft = Draft::of(&b.file);
-        for step in b.file.steps {
+    let mut seen: Tally<(u8, &'static str)> = Tally::new();
+    for seed in 0..2500 {
+        let (mut draft, steps) = statements(seed);
+        for step in steps {
             let explained = explained_step(&mut draft, step);
             let Why::Shape(fault) = &explained.why else {
                 assert!(!matches!(explained.reply, Reply::Refused { number: 10, .. }));
                 continue;
             };
-            let st = Statement::of(&draft, &step);
-            let so = if step.rule == 4 { is_so_of_pair(&st, fault) } else { is_so(&st, fault) };
-            assert!(so, "{fault:?}\n{}", explained.text);
-            seen.add((step.rule == 4, name(fault)));
+            assert!(is_so(&Statement::of(&draft, &step), fault), "{fault:?}\n{}", explained.text);
+            let (name, entries) = named(fault);
+            let told = |entry: &u16| {
+                [' ', ','].iter().any(|end| explained.text.contains(&format!("set {entry}{end}")))
+            };
+            assert!(entries.iter().all(told), "{fault:?}\n{}", explained.text);
+            seen.add((step.rule, name));
         }
     }
-    let many = [
-        "TooManyLeaves",
-        "NoLiteral",
-        "NoBracket",
-        "TwoBrackets",
-        "Inside",
-        "KindsMeet",
-        "TooManyRight",
-        "NoListed",
-    ];
-    seen.each_at_least(40, many.map(|name| (false, name.to_string())));
-    let pair = ["NoLiteral", "PairKind", "PairAlike", "PairList", "PairDisjoint"];
-    seen.each_at_least(40, pair.map(|name| (true, name.to_string())));
+    for rule in [2, 3] {
+        seen.each_at_least(30, ["no bracket", "two brackets", "inside"].map(|name| (rule, name)));
+    }
+    for rule in [1, 2, 3] {
+        let names = ["too many leaves", "no literal", "kinds meet", "too many right", "no listed"];
+        seen.each_at_least(30, names.map(|name| (rule, name)));
+    }
+    let names = ["no literal", "pair kind", "pair alike", "pair list", "pair disjoint"];
+    seen.each_at_least(30, names.map(|name| (4, name)));
 }
 
 /// A tree of two to the power 505 leaves: they are counted, and not gone through.

@@ -2,7 +2,7 @@
 
 use std::ops::Range;
 
-use super::text::{clause, counted, ACTION_SET_KINDS, STATE_SET_KINDS};
+use super::text::{action_title, clause, counted, ACTION_SET_KINDS, STATE_SET_KINDS};
 use crate::explain::layout::{entry_place, Allowed, LayoutFault};
 use crate::fault::{Group, Item};
 use crate::file::{Clause, File};
@@ -14,7 +14,7 @@ pub fn words(bytes: &[u8], file: &File, fault: &LayoutFault, names: &Names) -> V
     let Range { start, end } = fault.bytes;
     let width = counted(end - start, "byte");
     vec![
-        format!("At byte {start}, {width}: {}.", name(bytes, file, fault)),
+        format!("At byte {start}, {width}: {}.", name(bytes, file, fault, names)),
         holds_words(bytes, fault, names),
         allowed_words(file, fault),
     ]
@@ -28,7 +28,7 @@ fn group_name(group: Group) -> &'static str {
 }
 
 /// The field's name; items of an entry are counted from 0.
-fn name(bytes: &[u8], file: &File, fault: &LayoutFault) -> String {
+fn name(bytes: &[u8], file: &File, fault: &LayoutFault, names: &Names) -> String {
     match fault.item {
         Item::Whole if fault.bytes.len() > MAX_BYTES => "the file".into(),
         Item::Whole => "the length field".into(),
@@ -36,7 +36,7 @@ fn name(bytes: &[u8], file: &File, fault: &LayoutFault) -> String {
         Item::Field("goal") => "the goal mask".into(),
         Item::Field("init") => "the init state".into(),
         Item::Field(field) => format!("the {field}"),
-        Item::Mask(action, mask) => format!("action {action}, its {mask} mask"),
+        Item::Mask(action, mask) => format!("{}, its {mask} mask", action_title(action, names)),
         Item::Entry(group, entry) => format!("{} {entry}", group_name(group)),
         Item::EntryLength(group, entry) => format!("{} {entry}, its length", group_name(group)),
         Item::EntryKind(group, entry) => format!("{} {entry}, its kind", group_name(group)),

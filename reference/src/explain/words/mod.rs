@@ -59,7 +59,7 @@ fn step_words(text: &Text, file: &File, number: usize, why: &Why) -> Vec<String>
 }
 
 const UNKNOWN: &str =
-    "The check refuses this step, and no reason was found: one of them is wrong, in the reference checker.";
+    "The check refuses this step, and the search for the reason finds none: that is a fault of the reference checker.";
 
 /// For a rule its text, for a basic statement the two sets that it is about.
 fn step_head(text: &Text, step: &Step, why: &Why) -> Vec<String> {

@@ -2,7 +2,7 @@
 
 use super::text::{counted, Text};
 use crate::draft::DraftSet;
-use crate::explain::shape::{Leaf, ShapeFault, Side, MANY, MAX_LEAVES, MAX_RIGHT};
+use crate::explain::shape::{Leaf, PairFault, ShapeFault, Side, MANY, MAX_LEAVES, MAX_RIGHT};
 
 impl Side {
     fn name(self) -> &'static str {
@@ -41,40 +41,36 @@ pub fn words(text: &Text, rule: u8, fault: &ShapeFault) -> Vec<String> {
         }
         ShapeFault::TooManyRight { leaves } => too_many_right(text, leaves),
         ShapeFault::NoListed { leaves } => no_listed(text, rule, leaves),
-        ShapeFault::PairKind { .. }
-        | ShapeFault::PairAlike { .. }
-        | ShapeFault::PairList { .. }
-        | ShapeFault::PairDisjoint { .. } => pair_words(text, fault),
+        ShapeFault::Pair(fault) => pair_words(text, fault),
     };
     [vec!["The shape is not permitted.".to_string()], lines].concat()
 }
 
 /// The faults of B4.
-fn pair_words(text: &Text, fault: &ShapeFault) -> Vec<String> {
+fn pair_words(text: &Text, fault: &PairFault) -> Vec<String> {
     let kinds = "B4 takes two sets of different kinds among 3 (a list of states), 4 (Horn) and 5 (two-literal), or their complements.";
     match fault {
-        ShapeFault::PairKind { side, leaf } => {
+        PairFault::Kind { side, leaf } => {
             let line =
                 format!("The {} side is {}, {}.", side.name(), text.set(leaf.entry), base_kind(text, leaf));
             vec![line, kinds.to_string()]
         }
-        ShapeFault::PairAlike { left, right } => {
+        PairFault::Alike { left, right } => {
             let head = vec!["Both sides are of one kind:".to_string()];
             [head, with_kinds(text, [left, right]), vec![kinds.to_string()]].concat()
         }
-        ShapeFault::PairList { list } => {
+        PairFault::List { list } => {
             let side = if list.complemented { "left, as a complement" } else { "right" };
             vec![
                 format!("The list of states, set {}, stands on the {side}.", list.base),
                 "With X a list of states and Y clauses, B4 takes X<Y, X<~Y, ~Y<~X and Y<~X.".into(),
             ]
         }
-        ShapeFault::PairDisjoint { left, right } => {
+        PairFault::Disjoint { left, right } => {
             let head = vec!["This says that two sets of clauses have no state in common:".to_string()];
             let tail = "With X and Y clauses of different kinds, B4 takes X<Y, ~X<Y and ~X<~Y, but not X<~Y.";
             [head, with_kinds(text, [left, right]), vec![tail.to_string()]].concat()
         }
-        _ => Vec::new(),
     }
 }
 

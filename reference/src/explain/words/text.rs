@@ -58,15 +58,8 @@ impl Text<'_> {
     pub fn action(&self, action: u16) -> String {
         let a = &self.draft.actions[action as usize];
         let [pre, add, del] = [a.pre, a.add, a.del].map(|mask| self.names.facts_of(mask));
-        format!("action {action} pre {pre} add {add} del {del}{}", self.called(action))
-    }
-
-    /// The name of an action as a comment, where it has one.
-    fn called(&self, action: u16) -> String {
-        match self.names.action(action) {
-            name if name == action.to_string() => String::new(),
-            name => format!("  # {name}"),
-        }
+        let comment = name_of(action, self.names).map_or(String::new(), |name| format!("  # {name}"));
+        format!("action {action} pre {pre} add {add} del {del}{comment}")
     }
 
     /// The kind of a state set in words and as a number.
@@ -152,6 +145,19 @@ pub fn actions_content(set: &DraftActions, names: &Names, most: usize) -> String
             listed("list", items, most, counted(list.len(), "action"))
         }
         DraftActions::Union(a, b) => format!("= {a} + {b}"),
+    }
+}
+
+/// The name of an action, where it has one.
+fn name_of(action: u16, names: &Names) -> Option<String> {
+    Some(names.action(action)).filter(|name| *name != action.to_string())
+}
+
+/// An action by its number, and its name where it has one, `action 1 (open)`.
+pub fn action_title(action: u16, names: &Names) -> String {
+    match name_of(action, names) {
+        Some(name) => format!("action {action} ({name})"),
+        None => format!("action {action}"),
     }
 }
 
