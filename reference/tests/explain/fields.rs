@@ -1,12 +1,14 @@
 //! Reply 8: the conditions that are told are those that the step's twelve bytes break; and reply 12.
 
-use crate::common::signature;
+use crate::common::{kind, signature};
 use crate::{explained, Tally};
 use reference::draft::{sample, Draft};
 use reference::explain::fields::{FieldFault, Place};
 use reference::explain::Why;
 use reference::file::Step;
+use reference::generate::cases;
 use reference::generate::random::Random;
+use reference::layout;
 use reference::Reply;
 
 /// What a step's bytes break: the condition, counted as document 01 lists them, the place (entries 0
@@ -135,4 +137,35 @@ fn the_last_step() {
     d.steps.push(d.steps[0]);
     let text = explained(&d.encode()).text;
     assert!(text.ends_with("\nStep 7 says so, but it is not the last.\n"), "{text}");
+}
+
+/// The same of generated files: the first step that says "unsolvable", or else the first ones that say that
+/// init and that the goal is dead.
+#[test]
+fn last_steps_of_generated_files() {
+    let mut seen = 0;
+    for case in cases(36, 6000).filter(|case| case.question.is_none()) {
+        let explained = explained(&case.bytes);
+        if explained.why != Why::NotUnsolvable {
+            assert!(!matches!(explained.reply, Reply::Refused { number: 12, .. }));
+            continue;
+        }
+        let draft = Draft::of(&layout::read(&case.bytes).expect("a lawful layout"));
+        let last = draft.steps.len() - 1;
+        assert!(explained.text.contains(&format!("\nstep {last} ")), "{}", explained.text);
+        let dead = |wanted: u8| {
+            let says = |s: &Step| s.kind == 0 && kind(&draft.state_sets[s.entries[0] as usize]) == wanted;
+            draft.steps.iter().position(says)
+        };
+        let told = |k: usize, rule: &str| format!(" is dead: \"{rule} unsolvable by {k}\" would do.\n");
+        let ends = |end: &str| assert!(explained.text.ends_with(end), "{end}\n{}", explained.text);
+        match (draft.steps.iter().position(|s| s.kind == 3), dead(1), dead(2)) {
+            (Some(k), _, _) => ends(&format!("by CI or CG.\nStep {k} says so, but it is not the last.\n")),
+            (None, _, Some(k)) => ends(&told(k, "CG")),
+            (None, Some(k), None) => ends(&told(k, "CI")),
+            (None, None, None) => ends("by CI or CG.\n"),
+        }
+        seen += 1;
+    }
+    assert!(seen >= 40, "{seen}");
 }

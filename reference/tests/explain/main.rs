@@ -14,9 +14,11 @@ mod untrue;
 use std::collections::BTreeMap;
 use std::fmt::Debug;
 
-use reference::draft::Draft;
+use reference::draft::{mend_length, Draft};
 use reference::explain::{explain, why, Why};
 use reference::file::Step;
+use reference::generate::cases;
+use reference::generate::random::Random;
 use reference::names::Names;
 use reference::{check, Reply};
 
@@ -69,4 +71,29 @@ fn explained_step(draft: &mut Draft, step: Step) -> Explained {
 fn facts(mask: u64) -> String {
     let names: Vec<String> = (0..64).filter(|f| mask >> f & 1 == 1).map(|f| f.to_string()).collect();
     format!("{{{}}}", names.join(" "))
+}
+
+/// Whatever the bytes are, they are explained.
+#[test]
+fn any_bytes() {
+    let mut seen: Tally<String> = Tally::new();
+    let mut random = Random::new(37);
+    let files: Vec<Vec<u8>> =
+        cases(38, 100).map(|case| case.bytes).filter(|b| (1..2000).contains(&b.len())).collect();
+    for round in 0..15_000 {
+        let mut bytes = files[random.below(files.len())].clone();
+        for _ in 0..random.between(1, 4) {
+            let at = random.below(bytes.len());
+            bytes[at] = if random.chance(50) { random.next() as u8 } else { random.below(12) as u8 };
+        }
+        if round % 5 == 0 {
+            bytes.truncate(random.below(bytes.len()));
+        }
+        if round % 20 != 0 {
+            mend_length(&mut bytes);
+        }
+        let reply = explained(&bytes).reply.to_string();
+        seen.add(reply.split(' ').take(2).collect::<Vec<_>>().join(" "));
+    }
+    seen.each_at_least(5, (1..=12).map(|number| format!("refused {number}")).chain(["accepted".to_string()]));
 }
