@@ -1,5 +1,6 @@
 //! Explanations held to the meaning: what is told of thousands of generated files is looked at again
-//! by code that shares nothing with the search that found it.
+//! by code that shares nothing with the search that found it, but for the readers of files and of
+//! rule texts.
 
 mod accepted;
 #[path = "../common/mod.rs"]
