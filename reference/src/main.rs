@@ -10,7 +10,7 @@ use reference::generate::{cases, damaged, Case};
 use reference::names::Names;
 use reference::{ask, assemble, check, cost, explain, named, show};
 
-const USAGE: &str = "usage: reference check FILE | ask FILE ENTRY STATE | gen SEED COUNT | damaged FILE SEED COUNT | replies | pack | \
+const USAGE: &str = "usage: reference check FILE | ask FILE ENTRY STATE | gen SEED COUNT | damaged FILE SEED COUNT | replies | records | \
 assemble TEXTFILE | names TEXTFILE | show FILE [NAMES] | explain FILE [NAMES] | draw FILE [table|steps] [NAMES] | cost FILE | \
 workload NUMBER SEED   (FILE may be - for standard input)";
 
@@ -79,6 +79,7 @@ fn explain_trouble(stop: Stop) -> ExitCode {
 fn run(words: &[&str]) -> Result<(), Stop> {
     let mut out = BufWriter::new(io::stdout().lock());
     match words {
+        ["-h" | "--help"] => writeln!(out, "{USAGE}")?,
         ["check", file] => writeln!(out, "{}", check(&read(file)?))?,
         ["ask", file, entry, state] => {
             let (entry, state) = (number(entry)?, number(state)?);
@@ -99,7 +100,7 @@ fn run(words: &[&str]) -> Result<(), Stop> {
                 writeln!(out, "{}", case?.reply())?;
             }
         }
-        ["pack"] => {
+        ["records"] => {
             for case in lines() {
                 out.write_all(&case?.record())?;
             }

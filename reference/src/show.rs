@@ -5,11 +5,15 @@ use std::fmt::Write;
 use crate::draft::{Draft, DraftActions, DraftSet};
 use crate::file::{Clause, Step};
 use crate::names::Names;
+use crate::task::Action;
 use crate::words::describe;
 use crate::{layout, rules, steps};
 
 /// The most states of an explicit set that are written as lists of facts, where facts have names.
 const MOST_LISTED: usize = 8;
+
+/// As many items of a list as there are: the text is whole.
+pub const ALL: usize = usize::MAX;
 
 /// The text of any bytes: the reply as a comment, then the file where its layout is
 /// lawful.
@@ -48,28 +52,21 @@ fn write_task(out: &mut String, draft: &Draft, names: &Names) -> std::fmt::Resul
     if draft.version != 1 {
         writeln!(out, "version {}", draft.version)?;
     }
-    writeln!(out, "facts {}", draft.facts)?;
-    for (fact, name) in &names.facts {
-        writeln!(out, "fact {fact} {name}")?;
+    for line in head_lines(draft, names) {
+        writeln!(out, "{line}")?;
     }
-    let init = if names.facts.is_empty() { state(draft.init) } else { names.facts_of(draft.init) };
-    writeln!(out, "init {init}")?;
-    writeln!(out, "goal {}", names.facts_of(draft.goal))?;
     for (a, action) in draft.actions.iter().enumerate() {
-        let name = u16::try_from(a).ok().and_then(|a| names.actions.get(&a));
-        let name = name.map_or(String::new(), |name| format!(" {name}"));
-        let [pre, add, del] = [action.pre, action.add, action.del].map(|mask| names.facts_of(mask));
-        writeln!(out, "action {a}{name} pre {pre} add {add} del {del}")?;
+        writeln!(out, "{}", action_line(a, action, names))?;
     }
     Ok(())
 }
 
 fn write_certificate(out: &mut String, draft: &Draft, names: &Names) -> std::fmt::Result {
     for (e, set) in draft.action_sets.iter().enumerate() {
-        writeln!(out, "actions {e} {}", action_set(set, names))?;
+        writeln!(out, "actions {e} {}", action_set(set, names, ALL))?;
     }
     for (e, set) in draft.state_sets.iter().enumerate() {
-        writeln!(out, "set {e} {}", state_set(set, names))?;
+        writeln!(out, "set {e} {}", state_set(set, names, ALL))?;
     }
     for (s, step) in draft.steps.iter().enumerate() {
         writeln!(out, "step {s} {}", step_text(step))?;
@@ -81,38 +78,80 @@ fn joined(items: impl Iterator<Item = String>) -> String {
     items.collect::<Vec<String>>().join(" ")
 }
 
-/// A word in front of a list that may be empty.
-fn listed(word: &str, items: impl Iterator<Item = String>) -> String {
-    format!("{word} {}", joined(items)).trim_end().to_string()
+/// The facts with their names, the initial state and the goal.
+pub fn head_lines(draft: &Draft, names: &Names) -> [String; 3] {
+    let named = names.facts.iter().map(|(fact, name)| format!("\nfact {fact} {name}"));
+    let init = if names.facts.is_empty() { state(draft.init) } else { names.facts_of(draft.init) };
+    [
+        format!("facts {}{}", draft.facts, named.collect::<String>()),
+        format!("init {init}"),
+        format!("goal {}", names.facts_of(draft.goal)),
+    ]
 }
 
-/// An action set without its number, `list close_charge 1`.
-pub fn action_set(set: &DraftActions, names: &Names) -> String {
+/// An action by its number and its name, where it has one, `action 1 close_load`.
+pub fn action_title(a: usize, names: &Names) -> String {
+    let name = u16::try_from(a).ok().and_then(|a| names.actions.get(&a));
+    format!("action {a}{}", name.map_or(String::new(), |name| format!(" {name}")))
+}
+
+/// An action with its masks, `action 1 pre {} add {1} del {0}`.
+pub fn action_line(a: usize, action: &Action, names: &Names) -> String {
+    let [pre, add, del] = [action.pre, action.add, action.del].map(|mask| names.facts_of(mask));
+    format!("{} pre {pre} add {add} del {del}", action_title(a, names))
+}
+
+/// A word and the first `most` items of a list; where there are more, how many `things` the list holds.
+fn listed(
+    word: &str,
+    items: impl Iterator<Item = String>,
+    most: usize,
+    count: usize,
+    things: &str,
+) -> String {
+    let mut items: Vec<String> = items.collect();
+    if items.len() > most {
+        items.truncate(most);
+        items.push(format!("... ({count} {things})"));
+    }
+    items.insert(0, word.to_string());
+    items.join(" ")
+}
+
+/// An action set without its number, `list close_charge 1`, with at most so many items of a list.
+pub fn action_set(set: &DraftActions, names: &Names, most: usize) -> String {
     match set {
         DraftActions::All => "all".into(),
-        DraftActions::List(list) => listed("list", list.iter().map(|a| names.action(*a))),
+        DraftActions::List(list) => {
+            listed("list", list.iter().map(|a| names.action(*a)), most, list.len(), "actions")
+        }
         DraftActions::Union(a, b) => format!("= {a} + {b}"),
     }
 }
 
-/// A state set without its number, `horn (+charge_closed -1)`.
-pub fn state_set(set: &DraftSet, names: &Names) -> String {
+/// A state set without its number, `horn (+charge_closed -1)`, with at most so many items of a list.
+pub fn state_set(set: &DraftSet, names: &Names, most: usize) -> String {
     match set {
         DraftSet::Empty => "empty".into(),
         DraftSet::Init => "init".into(),
         DraftSet::Goal => "goal".into(),
         DraftSet::Explicit(states) if !names.facts.is_empty() && states.len() <= MOST_LISTED => {
-            listed("explicit", states.iter().map(|s| names.facts_of(*s)))
+            let lists = states.iter().map(|s| names.facts_of(*s));
+            listed("explicit", lists, most, states.len(), "states")
         }
-        DraftSet::Explicit(states) => listed("explicit", runs(states)),
-        DraftSet::Horn(clauses) => listed("horn", clauses.iter().map(|c| clause(c, names))),
-        DraftSet::TwoCnf(clauses) => listed("twocnf", clauses.iter().map(|c| clause(c, names))),
+        DraftSet::Explicit(states) => listed("explicit", runs(states), most, states.len(), "states"),
+        DraftSet::Horn(clauses) => clauses_text("horn", clauses, names, most),
+        DraftSet::TwoCnf(clauses) => clauses_text("twocnf", clauses, names, most),
         DraftSet::Complement(s) => format!("= ~ {s}"),
         DraftSet::Intersection(s, u) => format!("= {s} & {u}"),
         DraftSet::Union(s, u) => format!("= {s} + {u}"),
         DraftSet::Progression(s, a) => format!("= {s} [ {a} ]"),
         DraftSet::Regression(s, a) => format!("= [ {a} ] {s}"),
     }
+}
+
+fn clauses_text(word: &str, clauses: &[Clause], names: &Names, most: usize) -> String {
+    listed(word, clauses.iter().map(|c| clause(c, names)), most, clauses.len(), "clauses")
 }
 
 /// A state as a number, the larger ones in hexadecimal.
@@ -134,7 +173,7 @@ pub fn runs(states: &[u64]) -> impl Iterator<Item = String> + '_ {
 }
 
 /// A clause as its literals, `(+2 -0 -1)`.
-fn clause(clause: &Clause, names: &Names) -> String {
+pub fn clause(clause: &Clause, names: &Names) -> String {
     let facts = |mask: u64| (0..64).filter(move |f| mask >> f & 1 == 1);
     let positive = facts(clause.positive).map(|f| format!("+{}", names.fact(f)));
     let negative = facts(clause.negative).map(|f| format!("-{}", names.fact(f)));

@@ -104,17 +104,29 @@ fn explanations_and_their_status() {
     }
 }
 
+/// Names from a file of names, from the one beside the file, and from a text.
 #[test]
 fn explanations_with_names() {
-    let named = printed_by(
-        &["explain", &sample("sample.cert"), "-"],
-        b"# names\nfact 1 right_open\naction 0 open_left\n",
-        0,
-    );
-    assert!(named.contains("one with {0 right_open} on"), "{named}");
-    let faulty = run(&["explain", &sample("sample.cert"), "-"], b"fact 1 right open\n");
+    let room = std::env::temp_dir().join(format!("explain-names-{}", std::process::id()));
+    std::fs::create_dir_all(&room).expect("a folder");
+    let path = |name: &str| room.join(name).to_string_lossy().into_owned();
+    std::fs::copy(sample("sample.cert"), path("plain.cert")).expect("a copy");
+    std::fs::write(path("own.names"), "# names\nfact 1 right_open\naction 0 open_left\n").expect("names");
+    std::fs::write(path("faulty.names"), "fact 1 right open\n").expect("names");
+
+    let plain = printed_by(&["explain", &path("plain.cert")], b"", 0);
+    assert!(plain.contains("one with {0 1} on"), "{plain}");
+    let given = printed_by(&["explain", &path("plain.cert"), &path("own.names")], b"", 0);
+    assert!(given.contains("one with {0 right_open} on"), "{given}");
+    for file in ["sample.cert", "sample.txt"] {
+        let named = printed_by(&["explain", &sample(file)], b"", 0);
+        assert!(named.contains("one with {charge_closed load_closed} on"), "{named}");
+    }
+    let faulty = run(&["explain", &path("plain.cert"), &path("faulty.names")], b"");
     assert_eq!((faulty.status.code(), faulty.stdout.len()), (Some(2), 0));
-    assert_eq!(faulty.stderr, b"explain: -: line 1: no name of a fact or action\n");
+    let said = String::from_utf8(faulty.stderr).expect("text");
+    assert!(said.starts_with("explain: ") && said.contains("faulty.names: line 1: "), "{said}");
+    std::fs::remove_dir_all(&room).expect("the folder goes");
 }
 
 fn printed_by(arguments: &[&str], input: &[u8], status: i32) -> String {

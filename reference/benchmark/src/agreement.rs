@@ -2,7 +2,7 @@
 
 use reference::{Answer, Reply};
 
-use crate::earlier::Earlier;
+use crate::earlier::Build;
 use crate::files::{Question, Timed};
 use crate::proved;
 
@@ -17,7 +17,7 @@ pub fn reply(file: &Timed) -> Result<Reply, String> {
 }
 
 /// An earlier build replies as this one does.
-pub fn same(file: &Timed, build: &Earlier) -> Result<(), String> {
+pub fn same(file: &Timed, build: &Build) -> Result<(), String> {
     let (before, ours) = (proved::reply(build.check(&file.bytes)), proved::reply(proved::check(&file.bytes)));
     if before == ours {
         return Ok(());

@@ -1,5 +1,5 @@
-//! An earlier build of the proved checker, loaded beside the one that is linked, so that one run
-//! times both. Both have the same C names, so it comes as a shared object (`reference/bench` makes it).
+//! An earlier build of the proved checker and today's, loaded side by side, so that one run times both. Both have the same
+//! C names, and code that is put elsewhere takes other times: so both come as shared objects (`reference/bench` makes them).
 
 use std::ffi::{c_char, c_int, c_void, CString};
 
@@ -11,13 +11,25 @@ extern "C" {
 /// Resolve every symbol at once, and show none to other objects.
 const NOW: c_int = 2;
 
-/// Its function, as `certificate.h` declares it. The object stays loaded.
-pub struct Earlier {
+/// The two builds.
+pub struct Builds {
+    pub before: Build,
+    pub today: Build,
+}
+
+impl Builds {
+    pub fn load(before: &str, today: &str) -> Result<Builds, String> {
+        Ok(Builds { before: Build::load(before)?, today: Build::load(today)? })
+    }
+}
+
+/// A build's function, as `certificate.h` declares it. The object stays loaded.
+pub struct Build {
     check: unsafe extern "C" fn(*const u8, usize) -> u64,
 }
 
-impl Earlier {
-    pub fn load(path: &str) -> Result<Earlier, String> {
+impl Build {
+    pub fn load(path: &str) -> Result<Build, String> {
         let name = CString::new(path).map_err(|_| format!("{path}: not a file's name"))?;
         // Safe: both strings end with a zero byte, and what is loaded runs no code by itself.
         let found = unsafe {
@@ -35,7 +47,7 @@ impl Earlier {
         let check = unsafe {
             std::mem::transmute::<*mut c_void, unsafe extern "C" fn(*const u8, usize) -> u64>(found)
         };
-        Ok(Earlier { check })
+        Ok(Build { check })
     }
 
     /// The code of its reply.

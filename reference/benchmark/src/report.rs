@@ -3,23 +3,23 @@
 //! earlier build of the proved checker is given, its times stand beside.
 
 use crate::agreement;
-use crate::earlier::Earlier;
+use crate::earlier::Builds;
 use crate::files::{deepest, questions, series, workloads, worst_cases, Question, Series, Timed};
 use crate::format::{count, head, ratio, row, time};
 use crate::timing::{compare, Pace, Times};
 use crate::{proved, stack};
 
 /// Measures and prints, row by row.
-pub fn print(pace: Pace, earlier: Option<&Earlier>) -> Result<(), String> {
+pub fn print(pace: Pace, builds: Option<&Builds>) -> Result<(), String> {
     println!("{}", circumstances(pace));
     let (workloads, worst, series) = (workloads(), worst_cases(), series());
-    println!("\n## Workloads\n\n{}", head(&with_before(&TIMES, earlier.map(|_| BEFORE))));
+    println!("\n## Workloads\n\n{}", head(&with_before(&TIMES, builds.map(|_| BEFORE))));
     for file in workloads.iter().chain(&worst) {
-        println!("{}", times_row(file, pace, earlier)?);
+        println!("{}", times_row(file, pace, builds)?);
     }
-    println!("\n## Growth\n\n{}", head(&with_before(&GROWTH, earlier.map(|_| BEFORE))));
+    println!("\n## Growth\n\n{}", head(&with_before(&GROWTH, builds.map(|_| BEFORE))));
     for one in &series {
-        print_growth(one, pace, earlier)?;
+        print_growth(one, pace, builds)?;
     }
     println!("\n## Deepest stack of the proved checker\n\n{}", head(&["call", ">bytes", "file or entry"]));
     println!("{}", check_stack("check, workloads", &workloads)?);
@@ -60,12 +60,12 @@ fn before_cells(times: &Times) -> Option<[String; 2]> {
     times.earlier.map(|(seconds, over)| [time(seconds), ratio(over)])
 }
 
-fn times_row(file: &Timed, pace: Pace, earlier: Option<&Earlier>) -> Result<String, String> {
+fn times_row(file: &Timed, pace: Pace, builds: Option<&Builds>) -> Result<String, String> {
     let reply = agreement::reply(file)?;
-    if let Some(build) = earlier {
-        agreement::same(file, build)?;
+    if let Some(builds) = builds {
+        agreement::same(file, &builds.before)?;
     }
-    let times = compare(pace, &file.bytes, earlier);
+    let times = compare(pace, &file.bytes, builds);
     let (least, greatest) = times.spread();
     let cells = [
         file.name.clone(),
@@ -84,11 +84,11 @@ const GROWTH: [&str; 8] =
     ["what grows", ">size", ">bytes", ">proved", ">grew by", ">reference", ">grew by", ">ratio"];
 
 /// A row for each size.
-fn print_growth(series: &Series, pace: Pace, earlier: Option<&Earlier>) -> Result<(), String> {
+fn print_growth(series: &Series, pace: Pace, builds: Option<&Builds>) -> Result<(), String> {
     let mut before = None;
     for (size, file) in series.sizes.iter().zip(&series.files) {
         agreement::reply(file)?;
-        let times = compare(pace, &file.bytes, earlier);
+        let times = compare(pace, &file.bytes, builds);
         println!("{}", growth_row(series.name, *size, file, &times, before.as_ref()));
         before = Some(times);
     }

@@ -5,7 +5,7 @@
 use std::hint::black_box;
 use std::time::{Duration, Instant};
 
-use crate::earlier::Earlier;
+use crate::earlier::Builds;
 use crate::proved;
 
 /// How long to measure.
@@ -64,22 +64,23 @@ impl Times {
     }
 }
 
-/// Times the checkers on a file.
-pub fn compare(pace: Pace, file: &[u8], earlier: Option<&Earlier>) -> Times {
-    let time = |who: usize| match (who, earlier) {
-        (0, _) => best(pace.least, || proved::check(black_box(file))),
+/// Times the checkers on a file; where there are two builds of the proved one, today's as it is loaded beside the other.
+pub fn compare(pace: Pace, file: &[u8], builds: Option<&Builds>) -> Times {
+    let time = |who: usize| match (who, builds) {
+        (0, None) => best(pace.least, || proved::check(black_box(file))),
+        (0, Some(builds)) => best(pace.least, || builds.today.check(black_box(file))),
         (1, _) => best(pace.least, || reference::check(black_box(file))),
-        (_, Some(build)) => best(pace.least, || build.check(black_box(file))),
+        (_, Some(builds)) => best(pace.least, || builds.before.check(black_box(file))),
         (_, None) => f64::NAN,
     };
-    let many = 2 + earlier.iter().count();
+    let many = 2 + builds.iter().count();
     let round = |number: usize| {
         let mut times = [f64::NAN; 3];
         for turn in 0..many {
             let who = (number + turn) % many;
             times[who] = time(who);
         }
-        Round { proved: times[0], reference: times[1], earlier: earlier.map(|_| times[2]) }
+        Round { proved: times[0], reference: times[1], earlier: builds.map(|_| times[2]) }
     };
     Times::of(&(0..pace.rounds).map(round).collect::<Vec<Round>>())
 }

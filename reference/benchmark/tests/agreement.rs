@@ -1,7 +1,7 @@
 //! Every timed file and every question gets the expected reply from both checkers, and has
 //! the size that its name says.
 
-use benchmark::earlier::Earlier;
+use benchmark::earlier::{Build, Builds};
 use benchmark::files::{deepest, questions, series, workloads, worst_cases, Timed, ACTIONS, RIGHT_CLAUSES};
 use benchmark::{agreement, proved, stack};
 use reference::file::File;
@@ -60,13 +60,14 @@ fn an_earlier_build_is_loaded_beside_this_one() {
     let path = object.to_str().expect("a plain name");
     let words = ["-shared", "-o", path, "-Wl,--whole-archive", library, "-Wl,--no-whole-archive"];
     assert!(std::process::Command::new("cc").args(words).status().expect("cc").success());
-    let build = Earlier::load(path).unwrap_or_else(|message| panic!("{message}"));
+    let builds = Builds::load(path, path).unwrap_or_else(|message| panic!("{message}"));
     std::fs::remove_file(&object).expect("the object");
     for file in [deepest(), workloads().swap_remove(3)] {
-        assert_eq!(build.check(&file.bytes), proved::check(&file.bytes));
-        assert_eq!(agreement::same(&file, &build), Ok(()));
+        assert_eq!(builds.today.check(&file.bytes), proved::check(&file.bytes));
+        assert_eq!(agreement::same(&file, &builds.before), Ok(()));
     }
-    assert!(Earlier::load("/no/such/object.so").is_err());
+    assert!(Build::load("/no/such/object.so").is_err());
+    assert!(Builds::load(path, "/no/such/object.so").is_err());
 }
 
 #[test]

@@ -94,7 +94,7 @@ impl<'a> Entries<'a> {
         let mut lines = Vec::new();
         while let Some(entry) = self.sets.pop_last() {
             let Some(set) = self.draft.state_sets.get(entry as usize) else { continue };
-            let words = show::state_set(set, self.names);
+            let words = show::state_set(set, self.names, show::ALL);
             let words = match set {
                 DraftSet::Explicit(states) => shortened(words, states.len(), "states"),
                 DraftSet::Horn(list) | DraftSet::TwoCnf(list) => shortened(words, list.len(), "clauses"),
@@ -110,7 +110,7 @@ impl<'a> Entries<'a> {
         let mut lines = Vec::new();
         while let Some(entry) = self.action_sets.pop_last() {
             let Some(set) = self.draft.action_sets.get(entry as usize) else { continue };
-            let words = show::action_set(set, self.names);
+            let words = show::action_set(set, self.names, show::ALL);
             let words = match *set {
                 DraftActions::Union(a, b) => format!("{} + {}", self.actions(a), self.actions(b)),
                 DraftActions::List(ref list) => shortened(words, list.len(), "actions"),

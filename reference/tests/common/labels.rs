@@ -4,7 +4,7 @@ use std::collections::BTreeSet;
 
 use reference::draft::{Draft, DraftActions, DraftSet};
 use reference::names::Names;
-use reference::show::{action_set, state_set};
+use reference::show::{action_set, state_set, ALL};
 use reference::Reply;
 
 use super::dot::Graph;
@@ -149,12 +149,12 @@ fn explained_set(draft: &Draft, names: &Names, entry: usize, words: &str) -> Opt
         DraftSet::Horn(clauses) | DraftSet::TwoCnf(clauses) => format!("{} clauses", clauses.len()),
         _ => String::new(),
     };
-    (!is_compound(draft, words, set)).then(|| (state_set(set, names), size))
+    (!is_compound(draft, words, set)).then(|| (state_set(set, names, ALL), size))
 }
 
 fn explained_actions(draft: &Draft, names: &Names, entry: usize, words: &str) -> Option<(String, String)> {
     let set = &draft.action_sets[entry];
-    let text = action_set(set, names);
+    let text = action_set(set, names, ALL);
     match (set, words.split_once(" + ")) {
         (DraftActions::Union(a, b), Some((left, right))) => {
             assert!(is_actions(draft, left, *a as usize) && is_actions(draft, right, *b as usize));

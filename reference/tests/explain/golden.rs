@@ -39,7 +39,7 @@ fn facts_and_actions_by_name() {
     let text = explain(&d.encode(), &names());
     let told = [
         "\n  before: state 0 {}\n",
-        "\n  by action 1 pre {} add {right_open} del {left_open}  # open_right\n",
+        "\n  by action 1 open_right pre {} add {right_open} del {left_open}\n",
         "\n  after: state 2 {right_open}\n",
     ];
     told.iter().for_each(|line| assert!(text.contains(line), "{line}\n{text}"));
@@ -51,10 +51,10 @@ fn facts_and_actions_by_name() {
     d.actions[1].add = 6;
     let text = explain(&d.encode(), &names());
     assert!(
-        text.contains("\ngoal {left_open right_open}\naction 0 pre {} add {left_open} del {right_open}\n"),
+        text.contains("\nfacts 2\nfact 0 left_open\nfact 1 right_open\ninit {}\ngoal {left_open right_open}\naction 0 pre {} add {left_open} del {right_open}\n"),
         "{text}"
     );
-    assert!(text.contains(" action 1 (open_right), its add mask.\n"), "{text}");
+    assert!(text.contains(" action 1 open_right, its add mask.\n"), "{text}");
     assert!(
         text.contains("It holds 0x6: facts {right_open 2}, of which the task does not have {2}.\n"),
         "{text}"

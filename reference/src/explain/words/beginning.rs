@@ -1,29 +1,23 @@
 //! The text form of what stands before a layout fault. Items that were read whole are lines that
 //! `assemble` takes; the beginning of the item with the fault is a comment.
 
-use super::text::{actions_content, set_content, Text, ALL};
 use crate::draft::{Draft, DraftActions, DraftSet};
 use crate::explain::layout::{entry_place, LayoutFault};
 use crate::fault::Item;
 use crate::file::{Clause, File};
 use crate::names::Names;
-use crate::show;
+use crate::show::{self, ALL};
 
 /// The lines of everything before the fault; `file` is what was read before it.
 pub fn lines(bytes: &[u8], file: &File, fault: &LayoutFault, names: &Names) -> Vec<String> {
     let draft = Draft::of(file);
-    let text = Text { draft: &draft, names };
-    let mut lines = vec![
-        format!("facts {}", draft.facts),
-        format!("init {}", show::state(draft.init)),
-        format!("goal {}", names.facts_of(draft.goal)),
-    ];
+    let mut lines = show::head_lines(&draft, names).to_vec();
     lines.truncate(head_items(fault.item));
-    lines.extend((0..draft.actions.len()).map(|a| text.action(a as u16)));
+    lines.extend(draft.actions.iter().enumerate().map(|(a, action)| show::action_line(a, action, names)));
     let sets = draft.action_sets.iter().enumerate();
-    lines.extend(sets.map(|(e, set)| format!("actions {e} {}", actions_content(set, names, ALL))));
+    lines.extend(sets.map(|(e, set)| format!("actions {e} {}", show::action_set(set, names, ALL))));
     let sets = draft.state_sets.iter().enumerate();
-    lines.extend(sets.map(|(e, set)| format!("set {e} {}", set_content(set, names, ALL))));
+    lines.extend(sets.map(|(e, set)| format!("set {e} {}", show::state_set(set, names, ALL))));
     let steps = draft.steps.iter().enumerate();
     lines.extend(steps.map(|(s, step)| format!("step {s} {}", show::step_text(step))));
     lines.extend(begun(bytes, file, fault, names).map(|begun| format!("# {begun} ...")));
@@ -50,7 +44,7 @@ fn begun(bytes: &[u8], file: &File, fault: &LayoutFault, names: &Names) -> Optio
             let first = 24 + 24 * a as usize;
             let masks =
                 masks.enumerate().map(|(k, name)| format!(" {name} {}", names.facts_of(word(first + 8 * k))));
-            Some(format!("action {a}{}", masks.collect::<String>()))
+            Some(format!("{}{}", show::action_title(a as usize, names), masks.collect::<String>()))
         }
         Item::Part(group, entry, part, count) => {
             let body = entry_place(file, group) + 3;
@@ -59,7 +53,7 @@ fn begun(bytes: &[u8], file: &File, fault: &LayoutFault, names: &Names) -> Optio
             match (part, bytes[body - 1]) {
                 ("action", _) => {
                     let list = DraftActions::List(places(2).map(|p| number(bytes, p, 2) as u16).collect());
-                    Some(format!("actions {entry} {}", actions_content(&list, names, ALL)))
+                    Some(format!("actions {entry} {}", show::action_set(&list, names, ALL)))
                 }
                 ("state", _) => {
                     Some(set_line(entry, &DraftSet::Explicit(places(8).map(word).collect()), names))
@@ -79,7 +73,7 @@ fn begun(bytes: &[u8], file: &File, fault: &LayoutFault, names: &Names) -> Optio
 }
 
 fn set_line(entry: u16, set: &DraftSet, names: &Names) -> String {
-    format!("set {entry} {}", set_content(set, names, ALL))
+    format!("set {entry} {}", show::state_set(set, names, ALL))
 }
 
 /// The number in so many bytes; all of them were read.

@@ -1,11 +1,12 @@
 //! A counterexample in words: which state it is, in which sets of the left side, and in none of which
 //! on the right.
 
-use super::text::{clause, counted, Text};
+use super::text::{counted, Text};
 use crate::draft::DraftSet;
 use crate::explain::counterexample::Counterexample;
 use crate::explain::shape::{sides, Leaf, Sides};
 use crate::file::{Clause, File, Step};
+use crate::show;
 use crate::task::State;
 
 /// The counterexample in lines.
@@ -88,5 +89,7 @@ fn missing(text: &Text, entry: u16, state: State) -> String {
 /// The first clause that the state does not meet, counted from 0.
 fn unmet(text: &Text, clauses: &[Clause], state: State) -> String {
     let failed = clauses.iter().enumerate().find(|(_, clause)| !clause.met_by(state));
-    failed.map_or(String::new(), |(k, c)| format!("of which it fails clause {k}, {}", clause(c, text.names)))
+    failed.map_or(String::new(), |(k, c)| {
+        format!("of which it fails clause {k}, {}", show::clause(c, text.names))
+    })
 }

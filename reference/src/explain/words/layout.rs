@@ -2,12 +2,13 @@
 
 use std::ops::Range;
 
-use super::text::{action_title, clause, counted, ACTION_SET_KINDS, STATE_SET_KINDS};
+use super::text::{counted, ACTION_SET_KINDS, STATE_SET_KINDS};
 use crate::explain::layout::{entry_place, Allowed, LayoutFault};
 use crate::fault::{Group, Item};
 use crate::file::{Clause, File};
 use crate::layout::MAX_BYTES;
 use crate::names::Names;
+use crate::show;
 
 /// The field, what it holds and what it may hold, in lines.
 pub fn words(bytes: &[u8], file: &File, fault: &LayoutFault, names: &Names) -> Vec<String> {
@@ -36,7 +37,9 @@ fn name(bytes: &[u8], file: &File, fault: &LayoutFault, names: &Names) -> String
         Item::Field("goal") => "the goal mask".into(),
         Item::Field("init") => "the init state".into(),
         Item::Field(field) => format!("the {field}"),
-        Item::Mask(action, mask) => format!("{}, its {mask} mask", action_title(action, names)),
+        Item::Mask(action, mask) => {
+            format!("{}, its {mask} mask", show::action_title(action as usize, names))
+        }
         Item::Entry(group, entry) => format!("{} {entry}", group_name(group)),
         Item::EntryLength(group, entry) => format!("{} {entry}, its length", group_name(group)),
         Item::EntryKind(group, entry) => format!("{} {entry}, its kind", group_name(group)),
@@ -80,7 +83,7 @@ fn holds_words(bytes: &[u8], fault: &LayoutFault, names: &Names) -> String {
             let positive = found.positive.count_ones();
             format!(
                 "It holds {}: {positive} positive of {}.",
-                clause(&found, names),
+                show::clause(&found, names),
                 counted(literals as usize, "literal")
             )
         }

@@ -2,13 +2,12 @@
 //! actions by their names, long lists cut short.
 
 use crate::draft::{Draft, DraftActions, DraftSet};
-use crate::file::{Clause, Step};
+use crate::file::Step;
 use crate::names::Names;
 use crate::show;
 
-/// How many items of a list an explanation shows; a text that has to be whole shows `ALL`.
+/// How many items of a list an explanation shows.
 const FEW: usize = 8;
-pub const ALL: usize = usize::MAX;
 
 /// The kinds of state sets in words, by number.
 pub const STATE_SET_KINDS: [&str; 11] = [
@@ -45,21 +44,18 @@ impl Text<'_> {
 
     /// A state set, `set 3 explicit 0 1 2`.
     pub fn set(&self, entry: u16) -> String {
-        format!("set {entry} {}", set_content(&self.draft.state_sets[entry as usize], self.names, FEW))
+        format!("set {entry} {}", show::state_set(&self.draft.state_sets[entry as usize], self.names, FEW))
     }
 
     /// An action set, `actions 1 list 0 2`.
     pub fn actions(&self, entry: u16) -> String {
-        let content = actions_content(&self.draft.action_sets[entry as usize], self.names, FEW);
+        let content = show::action_set(&self.draft.action_sets[entry as usize], self.names, FEW);
         format!("actions {entry} {content}")
     }
 
     /// An action with its masks, `action 1 pre {} add {1} del {0}`.
     pub fn action(&self, action: u16) -> String {
-        let a = &self.draft.actions[action as usize];
-        let [pre, add, del] = [a.pre, a.add, a.del].map(|mask| self.names.facts_of(mask));
-        let comment = name_of(action, self.names).map_or(String::new(), |name| format!("  # {name}"));
-        format!("action {action} pre {pre} add {add} del {del}{comment}")
+        show::action_line(action as usize, &self.draft.actions[action as usize], self.names)
     }
 
     /// The kind of a state set in words and as a number.
@@ -110,74 +106,6 @@ pub fn actions_kind(set: &DraftActions) -> u8 {
         DraftActions::List(_) => 1,
         DraftActions::Union(..) => 2,
     }
-}
-
-/// The content of a state set, at most so many items of a list.
-pub fn set_content(set: &DraftSet, names: &Names, most: usize) -> String {
-    match set {
-        DraftSet::Empty => "empty".into(),
-        DraftSet::Init => "init".into(),
-        DraftSet::Goal => "goal".into(),
-        DraftSet::Explicit(states) => {
-            listed("explicit", show::runs(states), most, counted(states.len(), "state"))
-        }
-        DraftSet::Horn(clauses) => clauses_content("horn", clauses, names, most),
-        DraftSet::TwoCnf(clauses) => clauses_content("twocnf", clauses, names, most),
-        DraftSet::Complement(s) => format!("= ~ {s}"),
-        DraftSet::Intersection(s, u) => format!("= {s} & {u}"),
-        DraftSet::Union(s, u) => format!("= {s} + {u}"),
-        DraftSet::Progression(s, a) => format!("= {s} [ {a} ]"),
-        DraftSet::Regression(s, a) => format!("= [ {a} ] {s}"),
-    }
-}
-
-fn clauses_content(word: &str, clauses: &[Clause], names: &Names, most: usize) -> String {
-    let items = clauses.iter().map(|c| clause(c, names));
-    listed(word, items, most, counted(clauses.len(), "clause"))
-}
-
-/// The content of an action set, at most so many items of a list.
-pub fn actions_content(set: &DraftActions, names: &Names, most: usize) -> String {
-    match set {
-        DraftActions::All => "all".into(),
-        DraftActions::List(list) => {
-            let items = list.iter().map(|a| names.action(*a));
-            listed("list", items, most, counted(list.len(), "action"))
-        }
-        DraftActions::Union(a, b) => format!("= {a} + {b}"),
-    }
-}
-
-/// The name of an action, where it has one.
-fn name_of(action: u16, names: &Names) -> Option<String> {
-    Some(names.action(action)).filter(|name| *name != action.to_string())
-}
-
-/// An action by its number, and its name where it has one, `action 1 (open)`.
-pub fn action_title(action: u16, names: &Names) -> String {
-    match name_of(action, names) {
-        Some(name) => format!("action {action} ({name})"),
-        None => format!("action {action}"),
-    }
-}
-
-/// A clause as its literals, `(+2 -0 -1)`.
-pub fn clause(clause: &Clause, names: &Names) -> String {
-    let facts = |mask: u64| (0..64).filter(move |f| mask >> f & 1 == 1);
-    let positive = facts(clause.positive).map(|f| format!("+{}", names.fact(f)));
-    let negative = facts(clause.negative).map(|f| format!("-{}", names.fact(f)));
-    format!("({})", positive.chain(negative).collect::<Vec<_>>().join(" "))
-}
-
-/// A word and the first items of a list; where there are more, how much the list holds.
-fn listed(word: &str, items: impl Iterator<Item = String>, most: usize, all: String) -> String {
-    let mut items: Vec<String> = items.collect();
-    if items.len() > most {
-        items.truncate(most);
-        items.push(format!("... ({all})"));
-    }
-    items.insert(0, word.to_string());
-    items.join(" ")
 }
 
 /// A number and the thing that is counted, `1 leaf` or `2 states`.
