@@ -1,6 +1,6 @@
 -- What is known of a checked file, as its entries, actions and steps.
 -- Assumes nothing.
-use mathlib.Core.Path.{_≡_, refl, sym, ap, _∙_, subst}
+use mathlib.Core.Path.{_≡_, refl, sym, ap, subst}
 use Prim.Native.Nat.{ℕ, zero, suc, _+_, _*_, _≤_, _<_}
 use native.Mathlib.Nat.{not-suc-le-zero, le-of-suc-le-suc}
 use native.Mathlib.Decide.{decLt}
@@ -66,10 +66,6 @@ module _ (bytes : List ℕ) (at : Places) (k : Placed bytes at) where
   pub placed-ends : at .ends ≡ endsOf (decoded bytes .task)
   unfolding placesOf
   placed-ends = ap (λ (q : Places). q .ends) (k .places)
-
-  pub placed-actions : at .actions ≡ length (decoded bytes .task .actions)
-  unfolding placesOf
-  placed-actions = ap (λ (q : Places). q .actions) (k .places)
 
   pub placed-action-sets : at .«action_sets» ≡ length (decoded bytes .actionSets)
   unfolding placesOf

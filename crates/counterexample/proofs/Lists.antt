@@ -125,6 +125,3 @@ module _ {A : Type 0} (t : A → Bool) (P : List A → Type 0) (law : (xs : List
 
   pub of-map : {B : Type 0} (g : B → A) (xs : List B) → P (map g xs) ↔ T (every (λ x. t (g x)) xs)
   of-map g xs = Iff·trans (law (map g xs)) (tests-agree (every-map t g xs))
-
-  pub of-index : (d : A) (xs : List A) → P xs ↔ ((i : ℕ) → i < length xs → T (t (getD xs i d)))
-  of-index d xs = Iff·trans (law xs) (every-index t d xs)

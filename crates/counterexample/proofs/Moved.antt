@@ -3,10 +3,9 @@
 -- Assumes nothing.
 use mathlib.Core.Path.{ap, sym, _∙_}
 use mathlib.Core.Logic.{_↔_, Iff·trans, Iff·and}
-use Prim.Native.Nat.{ℕ, _<_}
+use Prim.Native.Nat.{ℕ}
 use mathlib.Core.Bool.{Bool, not, Bool·not-not}
 use mathlib.Core.List.{List, [], _∷_, _++_, map}
-use lib.ListN.{length, getD}
 use lib.Dec.{T}
 use Rattle.task.specs.declared.Action.{Action}
 use Rattle.task.specs.Reach.{every}
@@ -16,7 +15,7 @@ use Rattle.meaning.specs.Sets.{inSet}
 use Rattle.meaning.specs.Shapes.{keep, Sides, child, isComplement}
 use Rattle.counterexample.specs.Counter.{Asked, seen, AllIn, NoneIn, leftLeaves, rightLeaves}
 use Rattle.meaning.proofs.Sets.{and-iff}
-use Rattle.counterexample.proofs.Lists.{every-split, kept-same, tests-agree, of-append, of-map, of-index}
+use Rattle.counterexample.proofs.Lists.{every-split, kept-same, tests-agree, of-append, of-map}
 use Rattle.counterexample.proofs.LeafLaws.{in-complement}
 
 -- the leaf holds, asked as it says
@@ -46,13 +45,6 @@ module _ (f : File) (a : Action) (s : ℕ) where
 
   pub none-map : {B : Type 0} (g : B → Asked) (xs : List B) → NoneIn f a s (map g xs) ↔ T (every (λ x. not (asked f a s (g x))) xs)
   none-map = of-map (λ x. not (asked f a s x)) (NoneIn f a s) none-every
-
-  -- by index, with any value past the end
-  pub all-index : (d : Asked) (xs : List Asked) → AllIn f a s xs ↔ ((i : ℕ) → i < length xs → T (asked f a s (getD xs i d)))
-  all-index = of-index (asked f a s) (AllIn f a s) all-every
-
-  pub none-index : (d : Asked) (xs : List Asked) → NoneIn f a s xs ↔ ((i : ℕ) → i < length xs → T (not (asked f a s (getD xs i d))))
-  none-index = of-index (λ x. not (asked f a s x)) (NoneIn f a s) none-every
 
 -- ---- the leaves before complements changed sides
 

@@ -38,10 +38,6 @@ NoneIn f a s (x ∷ xs) = T (not (inSet f (x .entry) (seen (x .after) a s))) × 
 abbrev pub Refuted : File → Action → List Asked → List Asked → Type 0
 Refuted f a left right = (s : ℕ) × (s < 2 ^ f .task .facts) × T (applies a s) × AllIn f a s left × NoneIn f a s right
 
--- so for some action of action set x
-abbrev pub SomeRefuted : File → ℕ → List Asked → List Asked → Type 0
-SomeRefuted f x left right = (a : Action) × ActionsOf f x a × Refuted f a left right
-
 -- some action applies in some state, every left entry holds there and no right one does
 pub record Counter (f : File) (acts : Action → Type 0) (left right : List Asked) : Type 0 where
   pub action : Action

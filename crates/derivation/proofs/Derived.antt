@@ -15,7 +15,7 @@ use Rattle.patterns.specs.Matched.{matched}
 use Rattle.rules.specs.Derives.{ruleNumbered, byRule}
 use Rattle.rules.proofs.Dispatch.{read-premises}
 use Rattle.derivation.specs.StepReply.{ruleReply}
-use Rattle.derivation.proofs.StepLaws.{derivation-premises}
+use Rattle.formed.proofs.StepLaws.{derivation-premises}
 
 -- from the answer of the rule's own function, which was given as many premises as the rule has
 pub derived-by : (f : File) (s : code.Step) {n : ℕ} {p q o : Judgement} {r : StepReply} → (6 ≤ s .rule) × (s .rule ≤ 28)

@@ -1,4 +1,2 @@
-pub mod StepLaws
-pub mod FormedLaws
 pub mod Derived
 pub mod ReplyLaws

@@ -23,7 +23,7 @@ use Rattle.certificate.specs.declared.Judgement.{Judgement}
 use Rattle.certificate.specs.declared.Judgement.the-variants.{ActionsWithin}
 use Rattle.certificate.proofs.Judgement as judgements
 use Rattle.certificate.specs.declared.StepReply.{StepReply}
-use Rattle.certificate.specs.declared.StepReply.the-variants.{Passed, Refused}
+use Rattle.certificate.specs.declared.StepReply.the-variants.{Refused}
 use Rattle.certificate.specs.Views.{judgementOf, judgementAt, stepOf}
 use Rattle.certificate.specs.Known.{decoded}
 use Rattle.inclusion.specs.declared.Verdict.the-variants.{Holds, Untrue, NotPermitted}
@@ -34,10 +34,10 @@ use Rattle.rules.specs.Derives.{ruleNumbered, derives, kindSaid, leftSaid, righ
 use Rattle.patterns.proofs.Views.{others}
 use Rattle.rules.proofs.Saying.{derives-follows}
 use Rattle.rules.proofs.RuleLaws.{other-kind}
-use Rattle.derivation.specs.Formed.{formed, entriesIn, IsStep}
+use Rattle.formed.specs.Formed.{formed, entriesIn, IsStep}
 use Rattle.derivation.specs.StepReply.{stepReply, verdictReply, ruleReply}
-use Rattle.derivation.proofs.StepLaws.{step-unformed, step-formed, step-derived, rule-in-table, rule-some, kind-concluded}
-use Rattle.derivation.proofs.FormedLaws.{listing, three-premises, same-rule, formed-says, unused}
+use Rattle.formed.proofs.StepLaws.{step-unformed, step-formed, step-derived, rule-in-table, rule-some, kind-concluded}
+use Rattle.formed.proofs.FormedLaws.{listing, three-premises, same-rule, formed-says, unused}
 
 need-reply : (b : Bool) (i : ℕ) → matched b ≡ stepReply (need b 9 i)
 unfolding matched need stepReply

@@ -1,11 +1,11 @@
 // The check of one step: replies 8 to 11.
 use crate::step::derived;
-use crate::step::well_formed;
 use certificate::Index;
 use certificate::Judgement;
 use certificate::Places;
 use certificate::Step;
 use certificate::StepReply;
+use formed::well_formed;
 use inclusion::Verdict;
 use inclusion::decide;
 use numbers::RuleNumber;
@@ -20,7 +20,7 @@ ghost use Rattle.certificate.specs.Known.{Known, decoded};
 ghost use Rattle.inclusion.specs.Verdict.{verdictOf};
 ghost use Rattle.numbers.specs.Numbers.{judgementKindOf};
 ghost use Rattle.rules.specs.Derives.{kindSaid, leftSaid, rightSaid};
-ghost use Rattle.derivation.specs.Formed.{IsStep, entriesIn};
+ghost use Rattle.formed.specs.Formed.{IsStep, entriesIn};
 ghost use Rattle.derivation.specs.StepReply.{verdictReply, stepReply};
 
 // A basic statement's verdict as a reply.

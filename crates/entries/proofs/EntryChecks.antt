@@ -21,7 +21,7 @@ use Rattle.bytes.proofs.ByteLaws.{inside-out, number-in}
 use Rattle.bodies.proofs.Faults.{forget, told, told-refused, goes-on, stops, passed, failed}
 use Rattle.bodies.proofs.FieldLaws.{field-in}
 use Rattle.entries.proofs.FormLaws.{Same, Alike, no-kind, kind-of}
-use Rattle.entries.proofs.PartLaws.{part-length, part-says}
+use Rattle.entries.proofs.SliceLaws.{part-length, part-says}
 
 no-known : {A B : Type 0} {o : Option A} (n p : ℕ) (g : A → Result B) → o ≡ none → (known o n p >>= g) ≡ refuse n p
 unfolding known _>>=_

@@ -1,3 +1,3 @@
 pub mod FormLaws
-pub mod PartLaws
+pub mod SliceLaws
 pub mod EntryChecks

@@ -11,7 +11,6 @@ use Rattle.task.specs.declared.Ends.{Ends}
 use Rattle.task.specs.Inner.{noAction}
 use Rattle.certificate.specs.Known.{decoded}
 use Rattle.counterexample.specs.Counter.{ActionsOf}
-use Rattle.leaves.specs.declared.Leaf.{Leaf}
 use Rattle.leaves.specs.Leaves.{leafIn, leavesIn}
 use Rattle.leaves.specs.Holds.{Orderly}
 use Rattle.leaves.specs.Lists.{Each, Countered}

@@ -1,14 +1,12 @@
 -- Lists of leaves by their indices in the array.
 -- Assumes nothing.
-use mathlib.Core.Path.{_≡_, refl, ap}
-use mathlib.Core.Logic.{_↔_}
 use Prim.Native.Nat.{ℕ, zero, suc, _≤_, _<_}
 use native.Mathlib.Nat.{not-suc-le-zero, le-of-suc-le-suc}
 use native.Mathlib.Omega.{arith}
-use mathlib.Core.List.{List, [], _∷_, map}
-use lib.ListN.{length, getD, take}
+use mathlib.Core.List.{List, [], _∷_}
+use lib.ListN.{length}
 use Rattle.leaves.specs.declared.Leaf.{Leaf}
-use Rattle.leaves.specs.Leaves.{wordLeaf, leafIn, leavesIn}
+use Rattle.leaves.specs.Leaves.{leafIn, leavesIn}
 use Rattle.leaves.specs.Lists.{Each}
 
 module _ (P : Leaf → Type 0) where
@@ -25,9 +23,6 @@ module _ (P : Leaf → Type 0) where
   each-of leaves zero n h = tt
   each-of [] (suc m) n h = absurd (not-suc-le-zero n)
   each-of (x ∷ xs) (suc m) n h = (h 0 (omega arith), each-of xs m (le-of-suc-le-suc n) (λ j l. h (suc j) (omega arith)))
-
-  pub each-index : (leaves : List ℕ) (m : ℕ) → m ≤ length leaves → Each P (leavesIn leaves m) ↔ ((j : ℕ) → j < m → P (leafIn leaves j))
-  each-index leaves m n = (each-at leaves m n, each-of leaves m n)
 
 -- what is so of each leaf, and makes it so in another way
 pub each-turned : (P Q : Leaf → Type 0) → ((x : Leaf) → P x → Q x) → (xs : List Leaf) → Each P xs → Each Q xs

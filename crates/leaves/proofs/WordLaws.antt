@@ -1,11 +1,10 @@
 -- A leaf that was put into a word is what is taken out of it.
 -- Assumes nothing.
-use mathlib.Core.Path.{_≡_, refl, sym, ap, _∙_, subst}
+use mathlib.Core.Path.{_≡_, refl, ap, _∙_}
 use Prim.Native.Nat.{ℕ, _+_, _*_, _/_, _%_, _≤_, _<_}
 use native.Mathlib.Omega.{arith}
 use mathlib.Core.Bool.{Bool, true, false}
 use mathlib.Core.List.{[], _∷_}
-use lib.ListN.{getD}
 use lib.Dec.{eqb}
 use Rattle.certificate.specs.declared.Span.{Span}
 use Rattle.certificate.specs.declared.BasicEntry.{BasicEntry}

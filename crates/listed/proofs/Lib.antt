@@ -1,3 +1,1 @@
-pub mod SearchLaws
-pub mod LoopLaws
 pub mod ShownLaws

@@ -27,7 +27,7 @@ use Rattle.leaves.specs.Lists.{leafHolds, Countered}
 use Rattle.leaves.proofs.ListLaws.{each-at, each-of}
 use Rattle.listed.specs.Listed.{ListsStates, Anchored}
 use Rattle.listed.specs.Search.{Readable, RowsAfter, Closed, holdsOne, showsIn}
-use Rattle.listed.proofs.SearchLaws.{word, listed-at, listed-in}
+use Rattle.membership.proofs.SearchLaws.{word, listed-at, listed-in}
 
 -- leaf j: its set may be asked, and what was asked of it
 module _ (bytes leaves : List ℕ) (m : ℕ) (h : Readable bytes leaves m) (j : ℕ) (l : j < m) where

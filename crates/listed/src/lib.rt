@@ -4,122 +4,25 @@ use certificate::BasicEntry;
 use certificate::Span;
 use leaves::Leaf;
 use leaves::leaf_at;
-use meaning::Clause;
+use membership::find;
+use membership::set_holds;
 use task::Action;
 use task::Ends;
 use task::after;
-use task::all_on;
 use task::applies;
-use task::is_goal;
-use task::is_init;
-use words::words_in;
 ghost use mathlib.Core.Path.{_≡_};
 ghost use mathlib.Core.Logic.{_↔_};
 ghost use Prim.Native.Nat.{ℕ, _+_, _*_, _≤_, _<_};
 ghost use mathlib.Core.Bool.{not, _||_};
 ghost use lib.ListN.{length};
-ghost use lib.Dec.{T, eqb, ltb};
-ghost use Rattle.task.specs.Reach.{member};
+ghost use lib.Dec.{T, eqb};
 ghost use Rattle.bytes.specs.Numbers.{numberAt};
-ghost use Rattle.meaning.specs.Sets.{allBelow, someBelow, meets};
-ghost use Rattle.words.specs.Words.{wordsAt};
+ghost use Rattle.meaning.specs.Sets.{allBelow, someBelow};
 ghost use Rattle.leaves.specs.Leaves.{leafIn, leavesIn};
-ghost use Rattle.leaves.specs.Holds.{statesAt, InOrder, setHolds, Orderly};
+ghost use Rattle.leaves.specs.Holds.{InOrder, Orderly};
 ghost use Rattle.leaves.specs.Lists.{Each, Countered};
 ghost use Rattle.listed.specs.Listed.{Anchored};
 ghost use Rattle.listed.specs.Search.{Readable, RowsAfter, Closed, holdsOne, showsIn};
-
-// The guess, where it is one of so many, else the one in the middle.
-fn within(guess: usize, all: usize) -> usize
-    ensures { λ r. ⌜ (0 < all → r < all) ⌝ }
-{
-    if guess < all { guess } else { all >> 1 }
-}
-
-// Where a state stands among `count` ascending states from a place, and `count` where it does not. It is looked for from a
-// guess in growing steps, and then by halves: the states after an action often stand as those before it do.
-fn find(file: &[u8], at: u32, count: u32, guess: usize, s: u64) -> usize
-    requires { ⌜ InOrder (now file) at count ⌝ }
-    ensures { λ k. ⌜ ltb k count ≡ member s (statesAt (now (file .entry)) at count) ⌝ }
-{
-    let first = at as usize;
-    let all = count as usize;
-    let mut lo: usize = 0;
-    let mut hi = all;
-    let mut mid = within(guess, all);
-    let mut step: usize = 1;
-    while lo < hi {
-        let x = u64_in(file, first + 8 * mid);
-        if x == s {
-            return mid;
-        }
-        if x < s {
-            lo = mid + 1;
-            mid = mid + step;
-            if mid < hi {
-                step = step + step;
-            } else {
-                mid = lo + ((hi - lo) >> 1);
-            }
-        } else {
-            hi = mid;
-            if step <= mid - lo {
-                mid = mid - step;
-                step = step + step;
-            } else {
-                mid = lo + ((hi - lo) >> 1);
-            }
-        }
-    }
-    all
-}
-
-// Whether a state is among the listed ones.
-fn among(file: &[u8], x: Span, s: u64) -> bool
-    requires { ⌜ InOrder (now file) (x .at) (x .count) ⌝ }
-    ensures { λ b. ⌜ b ≡ member s (statesAt (now (file .entry)) (x .at) (x .count)) ⌝ }
-{
-    find(file, x.at, x.count as u32, 0, s) < x.count as usize
-}
-
-// Whether a state meets a clause.
-fn meets(s: u64, c: Clause) -> bool
-    ensures { λ b. ⌜ b ≡ meets s c ⌝ }
-{
-    (s & c.positive != 0) | !all_on(c.negative, s)
-}
-
-// Whether a state meets each clause.
-fn meets_all(file: &[u8], x: Span, s: u64) -> bool
-    requires { ⌜ x .at + 16 * x .count ≤ length (now file) ⌝ }
-    ensures { λ b. ⌜ b ≡ allBelow (x .count) (λ i. meets s (wordsAt (now (file .entry)) (x .at) i)) ⌝ }
-{
-    let at = x.at;
-    let count = x.count as u32;
-    let mut i = 0u32;
-    while i < count {
-        if !meets(s, words_in(file, at, i)) {
-            return false;
-        }
-        i += 1;
-    }
-    true
-}
-
-// Whether a set of kinds 0 to 5 holds a state.
-pub fn set_holds(file: &[u8], ends: Ends, set: BasicEntry, s: u64) -> bool
-    requires { ⌜ Orderly (now file) set ⌝ }
-    ensures { λ b. ⌜ b ≡ setHolds (now (file .entry)) ends set s ⌝ }
-{
-    match set {
-        BasicEntry::Empty => false,
-        BasicEntry::Init => is_init(ends, s),
-        BasicEntry::Goal => is_goal(ends, s),
-        BasicEntry::Explicit(x) => among(file, x, s),
-        BasicEntry::Horn(x) => meets_all(file, x, s),
-        BasicEntry::TwoCnf(x) => meets_all(file, x, s),
-    }
-}
 
 // Whether a leaf holds s, or t where it is asked about the state after the action.
 fn holds_one(file: &[u8], ends: Ends, x: Leaf, s: u64, t: u64) -> bool

@@ -130,11 +130,6 @@ looked-settled {two} {x} {r} {c} e l =
 
 -- ---- one look at each
 
--- the same clauses, said otherwise
-pub passed-as : {two : Bool} {P Q : Clause → Type 0} {x r : Assignment} → ((c : Clause) → P c → Q c) → ((c : Clause) → Q c → P c)
-    → Passed two P x r → Passed two Q x r
-passed-as to of u = record { goes = going-under (λ s m c p. m c (to c p)) (u .goes); looked = λ z c q. u .looked z c (of c q) }
-
 -- a look at clauses in general does for Horn clauses too
 pub passed-any : (two : Bool) {P : Clause → Type 0} {x r : Assignment} → Passed true P x r → Passed two P x r
 passed-any two u =

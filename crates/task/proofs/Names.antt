@@ -1,17 +1,15 @@
 -- Laws of the names `isInit`, `isGoal`, `applies` and `after`: what every other crate knows of them. They are opened in this crate alone.
 -- Assumes nothing.
-use mathlib.Core.Path.{_≡_, refl, ap, sym}
-use Prim.Native.Nat.{ℕ, _≤_, _-_, max, min}
+use mathlib.Core.Path.{_≡_, refl, ap}
+use Prim.Native.Nat.{ℕ, _≤_, _-_}
 use native.Mathlib.Omega.{arith}
-use mathlib.Core.Bool.{Bool, true, false}
 use lib.Dec.{T, eqb→eq}
-use Rattle.task.specs.Facts.{allOn}
 use Rattle.task.specs.Task.{Task, isInit, isGoal, applies, after}
 use Rattle.task.specs.Inner.{bit, noAction, endsOf, atInit, atGoal}
 use Rattle.task.specs.declared.Action.{Action}
 use Rattle.task.specs.declared.Ends.{Ends}
 use Rattle.task.proofs.Tests.{same}
-use Rattle.task.proofs.Bits.{bit-le, bit-none, same-bits, all-on-at, all-on-of, bit-after}
+use Rattle.task.proofs.Bits.{bit-none, same-bits, all-on-at, all-on-of}
 
 -- ---- the ends
 
@@ -63,11 +61,3 @@ module _ (a : Action) (s : ℕ) where
 pub nothing-applies : (s : ℕ) → T (applies noAction s)
 unfolding noAction
 nothing-applies s = applies-of noAction s (λ f. let z = bit-none f in omega arith)
-
-pub nothing-after : (s : ℕ) → after noAction s ≡ s
-unfolding noAction
-nothing-after s = same-bits (after noAction s) s (λ f.
-    let z = bit-none f in
-    let b = bit-le f s in
-    let h = bit-after noAction s f in
-    omega arith)

@@ -23,7 +23,7 @@ use Rattle.meaning.specs.Layout.{readFile}
 use Rattle.certificate.specs.Views.{judgementOf, judgementAt}
 use Rattle.certificate.specs.Known.{Placed, decoded}
 use Rattle.certificate.proofs.KnownLaws.{read-file, placed-steps}
-use Rattle.derivation.proofs.StepLaws.{passed-kind}
+use Rattle.formed.proofs.StepLaws.{passed-kind}
 use Rattle.meaning.specs.Step.{Check, statement, derivation, ruleAt, checkBy, checkStep}
 use Rattle.meaning.specs.Rules.{_⊢_}
 use Rattle.derivation.specs.StepReply.{stepReply}

@@ -1,18 +1,16 @@
 -- `inclusion::decide`: the shape first, then the search for a counterexample.
 -- Assumes nothing.
-use mathlib.Core.Path.{_≡_, refl, sym, ap, _∙_, subst}
+use mathlib.Core.Path.{_≡_, sym, ap, _∙_, subst}
 use mathlib.Core.Logic.{Iff·trans}
 use mathlib.Core.Bool.{true}
 use Prim.Native.Nat.{ℕ, _<_}
 use native.Mathlib.Omega.{arith}
 use lib.ListN.{length}
 use borrow.Author.Needs.{needs}
-use Rattle.task.specs.declared.Ends.{Ends}
-use Rattle.task.specs.Inner.{endsOf}
 use Rattle.certificate.specs.Known.{decoded}
 use Rattle.certificate.proofs.KnownLaws.{read-ordered, read-bounded}
 use Rattle.certificate.proofs.IndexLaws.{zeros}
-use Rattle.inclusion.specs.Search.{Searchable, hasBracket}
+use Rattle.inclusion.specs.Search.{hasBracket}
 use Rattle.inclusion.specs.Verdict.{verdictOf}
 use Rattle.inclusion.proofs.Ready.{searchable}
 use Rattle.inclusion.proofs.CounterLaws.{by-rule, action-set}

@@ -1,14 +1,12 @@
 -- `inclusion::is_countered`: with a bracket some action of its set, else the action that does nothing.
 -- Assumes nothing.
-use mathlib.Core.Path.{_≡_, sym, subst, _∙_}
+use mathlib.Core.Path.{sym, subst, _∙_}
 use mathlib.Core.Logic.{_↔_}
-use mathlib.Core.Bool.{Bool, true, false}
-use Prim.Native.Nat.{_<_, _^_}
+use mathlib.Core.Bool.{Bool}
 use lib.Dec.{T}
 use borrow.Author.Needs.{needs}
-use Rattle.task.specs.declared.Ends.{Ends}
 use Rattle.task.specs.Inner.{noAction, endsOf}
-use Rattle.inclusion.specs.Search.{hasBracket, WithBracket}
+use Rattle.inclusion.specs.Search.{WithBracket}
 use Rattle.inclusion.proofs.Ready.{none-fits}
 use Rattle.inclusion.proofs.is_countered.Statement.{statement}
 use Rattle.inclusion.proofs.is_countered.Tie as tie

@@ -1,9 +1,7 @@
 -- `inclusion::one_refutes`: either search tells whether the action makes the statement untrue.
 -- Assumes nothing.
-use mathlib.Core.Path.{_≡_}
-use mathlib.Core.Logic.{_↔_, Iff·trans}
+use mathlib.Core.Logic.{Iff·trans}
 use Prim.Native.Nat.{_≤_}
-use native.Mathlib.Omega.{arith}
 use lib.ListN.{length}
 use borrow.Author.Needs.{needs}
 use Rattle.inclusion.proofs.RightTwo.{unlisted-both, countered-both}

@@ -1,16 +1,13 @@
 -- `inclusion::some_refutes`: the actions of the set are tried in turn; none of those tried so far makes the statement untrue.
 -- Assumes nothing.
-use mathlib.Core.Path.{_≡_, refl, sym, _∙_, subst}
+use mathlib.Core.Path.{_≡_, sym, _∙_, subst}
 use mathlib.Core.Logic.{⊎-elim}
-use Prim.Native.Nat.{ℕ, _≤_, _<_, _-_, _^_}
+use Prim.Native.Nat.{ℕ, _≤_, _<_, _-_}
 use native.Mathlib.Omega.{arith}
 use lib.ListN.{length}
 use lib.Dec.{T}
-use borrow.Author.Needs.{needs}
 use Rattle.task.specs.declared.Action.{Action}
-use Rattle.task.specs.declared.Ends.{Ends}
 use Rattle.task.specs.Inner.{endsOf}
-use Rattle.task.specs.Task.{actionAt}
 use Rattle.meaning.specs.File.{File}
 use Rattle.meaning.specs.Sets.{inActions}
 use Rattle.certificate.specs.Known.{decoded}

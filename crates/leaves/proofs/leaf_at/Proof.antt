@@ -1,8 +1,7 @@
 -- `leaves::leaf_at` meets its contract.
 -- Assumes nothing.
-use mathlib.Core.Path.{_∙_, ap}
 use borrow.Author.Needs.{needs}
-use Rattle.leaves.specs.Leaves.{wordLeaf, leafIn}
+use Rattle.leaves.specs.Leaves.{leafIn}
 use Rattle.leaves.proofs.leaf_at.Statement.{statement}
 use Rattle.leaves.proofs.leaf_at.Tie as tie
 

@@ -1,7 +1,6 @@
 -- `leaves::word_of` meets its contract: no part of the word reaches into another.
 -- Assumes nothing.
-use mathlib.Core.Path.{_≡_, ap, _∙_}
-use Prim.Native.Nat.{_≤_}
+use mathlib.Core.Path.{ap}
 use native.Mathlib.Omega.{arith}
 use Rattle.certificate.specs.declared.Span.{Span}
 use borrow.Author.Needs.{needs}

@@ -9,7 +9,7 @@ use borrow.Author.Needs.{needs}
 use borrow.Author.Tests.{eq-eqb, ne-eqb, not-true, not-false}
 use Rattle.meaning.specs.Sets.{allBelow}
 use Rattle.listed.specs.Search.{holdsOne}
-use Rattle.listed.proofs.LoopLaws.{all-none, all-more, all-fails, all-done}
+use Rattle.membership.proofs.LoopLaws.{all-none, all-more, all-fails, all-done}
 use Rattle.leaves.specs.Leaves.{leafIn}
 use Rattle.listed.proofs.ShownLaws.{orderly-leaf, tested}
 use Rattle.listed.proofs.all_hold.Statement.{statement}

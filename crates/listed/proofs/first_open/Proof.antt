@@ -8,7 +8,7 @@ use lib.Dec.{ltb, lt→ltb}
 use borrow.Author.Needs.{needs}
 use Rattle.task.proofs.Tests.{is-true}
 use Rattle.listed.specs.Search.{Closed}
-use Rattle.listed.proofs.SearchLaws.{word, word-in, from-more}
+use Rattle.membership.proofs.SearchLaws.{word, word-in, from-more}
 use Rattle.listed.proofs.first_open.Statement.{statement}
 use Rattle.listed.proofs.first_open.Tie as tie
 

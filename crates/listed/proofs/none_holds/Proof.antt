@@ -6,7 +6,7 @@ use mathlib.Core.Bool.{true, not}
 use borrow.Author.Needs.{needs}
 use Rattle.meaning.specs.Sets.{allBelow}
 use Rattle.listed.specs.Search.{holdsOne}
-use Rattle.listed.proofs.LoopLaws.{all-none, all-more, all-fails, all-done}
+use Rattle.membership.proofs.LoopLaws.{all-none, all-more, all-fails, all-done}
 use Rattle.leaves.specs.Leaves.{leafIn}
 use Rattle.listed.proofs.ShownLaws.{orderly-leaf, tested}
 use Rattle.listed.proofs.none_holds.Statement.{statement}

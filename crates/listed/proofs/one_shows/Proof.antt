@@ -6,9 +6,9 @@ use mathlib.Core.Bool.{Bool, false}
 use borrow.Author.Needs.{needs}
 use Rattle.meaning.specs.Sets.{someBelow}
 use Rattle.listed.specs.Search.{Closed, showsIn}
-use Rattle.listed.proofs.SearchLaws.{word, word-in}
+use Rattle.membership.proofs.SearchLaws.{word, word-in}
 use Rattle.listed.proofs.ShownLaws.{rows-ordered, closed-shows}
-use Rattle.listed.proofs.LoopLaws.{some-none, some-more, some-range, some-found, some-done}
+use Rattle.membership.proofs.LoopLaws.{some-none, some-more, some-range, some-found, some-done}
 use Rattle.listed.proofs.one_shows.Statement.{statement}
 use Rattle.listed.proofs.one_shows.Tie as tie
 

@@ -1,6 +1,6 @@
 -- `lookup::action_set`: where the table has no place the default, else what stands there.
 -- Assumes nothing.
-use mathlib.Core.Path.{sym, ap, _∙_}
+use mathlib.Core.Path.{sym, _∙_}
 use borrow.Author.Needs.{needs}
 use Rattle.certificate.proofs.KnownLaws.{known-actions-here, known-actions-none, known-actions-room}
 use Rattle.lookup.proofs.action_set.Statement.{statement}

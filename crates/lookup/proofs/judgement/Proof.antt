@@ -1,6 +1,6 @@
 -- `lookup::judgement`: past the last step the default, else what the step says.
 -- Assumes nothing.
-use mathlib.Core.Path.{ap, _∙_}
+use mathlib.Core.Path.{ap}
 use borrow.Author.Needs.{needs}
 use Rattle.certificate.specs.declared.Step as code
 use Rattle.certificate.specs.Views.{stepOf, judgementAt}

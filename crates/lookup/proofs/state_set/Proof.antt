@@ -1,6 +1,6 @@
 -- `lookup::state_set`: where the table has no place the default, else what stands there.
 -- Assumes nothing.
-use mathlib.Core.Path.{sym, ap, _∙_}
+use mathlib.Core.Path.{sym, _∙_}
 use borrow.Author.Needs.{needs}
 use Rattle.certificate.proofs.KnownLaws.{known-state-here, known-state-none, known-state-room}
 use Rattle.lookup.proofs.state_set.Statement.{statement}

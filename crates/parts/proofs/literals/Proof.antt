@@ -4,7 +4,7 @@ use mathlib.Core.Path.{ap₂, _∙_}
 use mathlib.Core.Bool.{_&&_}
 use borrow.Author.Needs.{needs}
 use Rattle.parts.specs.Written.{sidesIn, literalsOf}
-use Rattle.parts.proofs.RuleLaws.{literals-in, basics-in}
+use Rattle.parts.proofs.WrittenLaws.{literals-in, basics-in}
 use Rattle.parts.proofs.literals.Statement.{statement}
 use Rattle.parts.proofs.literals.Tie as tie
 

@@ -1,7 +1,7 @@
 -- `parts::parts_of` meets its contract: the rule picks the case.
 -- Assumes nothing.
 use borrow.Author.Needs.{needs}
-use Rattle.parts.proofs.RuleLaws.{parted-plain, parted-bracket, parted-pair}
+use Rattle.parts.proofs.WrittenLaws.{parted-plain, parted-bracket, parted-pair}
 use Rattle.parts.proofs.parts_of.Statement.{statement}
 use Rattle.parts.proofs.parts_of.Tie as tie
 

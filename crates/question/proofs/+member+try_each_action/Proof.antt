@@ -31,7 +31,7 @@ use Rattle.lookup.proofs.action.Reads as action-reads
 use Rattle.lookup.proofs.action_count.Reads as action-count-reads
 use Rattle.lookup.proofs.state_set.Reads as state-set-reads
 use Rattle.actions.proofs.action_marks.Reads as action-marks-reads
-use Rattle.listed.proofs.set_holds.Reads as set-holds-reads
+use Rattle.membership.proofs.set_holds.Reads as set-holds-reads
 use Rattle.actions.proofs.marks.is_marked.Reads as is-marked-reads
 use Rattle.task.proofs.after.Reads as after-reads
 use Rattle.task.proofs.applies.Reads as applies-reads

@@ -4,7 +4,7 @@
 use Prim.Native.Nat.{_-_, _≤_, _<_}
 use native.Mathlib.Omega.{arith}
 use borrow.Author.Needs.{needs}
-use mathlib.Core.Path.{_∙_, ap}
+use mathlib.Core.Path.{ap}
 use Rattle.certificate.specs.declared.Step as code
 use Rattle.certificate.specs.Views.{judgementAt, stepOf}
 use Rattle.certificate.specs.Known.{decoded}

@@ -2,7 +2,6 @@
 -- Assumes nothing.
 use borrow.Author.Needs.{needs}
 use native.Mathlib.Omega.{arith}
-use mathlib.Core.Path.{_∙_}
 use Rattle.bytes.proofs.ByteLaws.{number-cat}
 use Rattle.words.proofs.TurnLaws.{turn-eight}
 use Rattle.words.proofs.u64_turned.Statement.{statement}

@@ -1,6 +1,6 @@
 -- `views::head_at` meets its contract: it is made of the numbers that are read.
 -- Assumes nothing.
-use mathlib.Core.Path.{_≡_, ap, _∙_}
+use mathlib.Core.Path.{ap, _∙_}
 use Prim.Native.Nat.{ℕ, _+_, _-_}
 use Rattle.certificate.specs.Views.{headAt}
 use Rattle.bytes.proofs.ByteLaws.{read-in}

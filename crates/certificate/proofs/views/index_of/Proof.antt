@@ -1,9 +1,7 @@
 -- `views::index_of` meets its contract: two fillings of a table of zeros, the second of which leaves the first as it is.
 -- Assumes nothing.
-use mathlib.Core.Path.{_≡_, refl, subst}
-use Prim.Native.Nat.{ℕ, zero, suc}
-use mathlib.Core.List.{List}
-use lib.ListN.{getD, replicate}
+use mathlib.Core.Path.{refl, subst}
+use Prim.Native.Nat.{zero}
 use borrow.Author.Needs.{needs}
 use Rattle.certificate.specs.declared.Places.{Places}
 use Rattle.certificate.specs.Index.{Table}

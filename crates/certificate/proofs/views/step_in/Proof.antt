@@ -1,8 +1,7 @@
 -- `views::step_in` meets its contract: it is made of the numbers that are read.
 -- Assumes nothing.
-use Prim.Native.Nat.{ℕ, _+_, _≤_}
-use mathlib.Core.Path.{_≡_, sym, ap, ap₂, _∙_}
-use mathlib.Core.List.{List, [], _∷_}
+use Prim.Native.Nat.{ℕ, _+_}
+use mathlib.Core.Path.{_≡_, sym}
 use Rattle.certificate.specs.Views.{stepRead, stepOf, judgementOf, cleanOf}
 use Rattle.bytes.proofs.ByteLaws.{read-in}
 use borrow.Author.Needs.{needs}

@@ -2,7 +2,7 @@
 -- Assumes nothing.
 use borrow.Author.Needs.{needs}
 use borrow.Author.Tests.{not-true}
-use Rattle.derivation.proofs.FormedLaws.{unused}
+use Rattle.formed.proofs.FormedLaws.{unused}
 use Rattle.derivation.proofs.step.premise.Statement.{statement}
 use Rattle.derivation.proofs.step.premise.Tie as tie
 

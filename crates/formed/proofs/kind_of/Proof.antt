@@ -2,8 +2,8 @@
 -- Assumes nothing.
 use borrow.Author.Needs.{needs}
 use Rattle.rules.specs.Derives.{kindSaid}
-use Rattle.derivation.proofs.step.kind_of.Statement.{statement}
-use Rattle.derivation.proofs.step.kind_of.Tie as tie
+use Rattle.formed.proofs.kind_of.Statement.{statement}
+use Rattle.formed.proofs.kind_of.Tie as tie
 
 pub kind-of-spec : {M : Type 1} → statement M
 unfolding kindSaid

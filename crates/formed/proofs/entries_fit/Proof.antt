@@ -1,9 +1,9 @@
 -- `step::entries_fit` meets its contract: by what the judgement is about.
 -- Assumes nothing.
 use borrow.Author.Needs.{needs}
-use Rattle.derivation.specs.Formed.{entriesIn}
-use Rattle.derivation.proofs.step.entries_fit.Statement.{statement}
-use Rattle.derivation.proofs.step.entries_fit.Tie as tie
+use Rattle.formed.specs.Formed.{entriesIn}
+use Rattle.formed.proofs.entries_fit.Statement.{statement}
+use Rattle.formed.proofs.entries_fit.Tie as tie
 
 pub entries-fit-spec : {M : Type 1} → statement M
 unfolding entriesIn

@@ -6,7 +6,7 @@ use native.Mathlib.Omega.{arith}
 use mathlib.Core.Bool.{Bool, true, false, _&&_}
 use mathlib.Core.List.{List, [], _∷_}
 use lib.Dec.{T, ltb, eqb, eqb→eq}
-use lib.ListN.{length, getD, take, drop, List·getD-eq-default}
+use lib.ListN.{length, take, drop}
 use lib.Seq.{take-nil, drop-nil}
 use borrow.Author.Tests.{lt-ltb, ne-eqb}
 use Rattle.task.specs.Reach.{every}
@@ -23,9 +23,9 @@ use Rattle.meaning.specs.Step.{entriesFit, wellFormed}
 use Rattle.numbers.specs.Numbers.{premisesOf, judgementKindOf}
 use Rattle.numbers.proofs.TwoBits.{kind-bound}
 use Rattle.rules.specs.Derives.{kindSaid}
-use Rattle.derivation.specs.Formed.{placeFits, entriesIn, formedUnder, formed, IsStep}
+use Rattle.formed.specs.Formed.{placeFits, entriesIn, formedUnder, formed, IsStep}
 use Rattle.rules.proofs.RuleLaws.{and-assoc, and-true, and-false, and-comm}
-use Rattle.derivation.proofs.StepLaws.{rule-known, rule-none, rule-past}
+use Rattle.formed.proofs.StepLaws.{rule-known, rule-none, rule-past}
 
 -- the three premises of a step
 abbrev pub listing : List ℕ → List ℕ

@@ -8,9 +8,9 @@ use borrow.Author.Needs.{needs}
 use borrow.Author.Tests.{not-true, not-false}
 use Rattle.meaning.specs.Sets.{allBelow, meets}
 use Rattle.words.specs.Words.{wordsAt}
-use Rattle.listed.proofs.LoopLaws.{all-none, all-more, all-fails, all-done}
-use Rattle.listed.proofs.meets_all.Statement.{statement}
-use Rattle.listed.proofs.meets_all.Tie as tie
+use Rattle.membership.proofs.LoopLaws.{all-none, all-more, all-fails, all-done}
+use Rattle.membership.proofs.meets_all.Statement.{statement}
+use Rattle.membership.proofs.meets_all.Tie as tie
 
 abbrev met : List ℕ → ℕ → ℕ → ℕ → Bool
 met file at s i = meets s (wordsAt file at i)

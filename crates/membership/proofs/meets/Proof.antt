@@ -6,8 +6,8 @@ use lib.Bits.{bitAnd}
 use lib.Dec.{eqb}
 use borrow.Author.Needs.{needs}
 use Rattle.meaning.specs.Sets.{meets}
-use Rattle.listed.proofs.meets.Statement.{statement}
-use Rattle.listed.proofs.meets.Tie as tie
+use Rattle.membership.proofs.meets.Statement.{statement}
+use Rattle.membership.proofs.meets.Tie as tie
 
 returns : tie.Need-returns
 unfolding meets

@@ -22,7 +22,7 @@ use Rattle.meaning.specs.Step.{checkStep}
 use Rattle.numbers.specs.Numbers.{ruleTable, premisesOf, judgementKindOf}
 use Rattle.numbers.proofs.TwoBits.{kind-bound}
 use Rattle.rules.specs.Derives.{isSome, derives, ruleNumbered}
-use Rattle.derivation.specs.Formed.{formedUnder, formed}
+use Rattle.formed.specs.Formed.{formedUnder, formed}
 use Rattle.numbers.specs.declared.RuleNumber.{RuleNumber}
 
 -- ---- the rule with a number

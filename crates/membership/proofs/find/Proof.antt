@@ -5,9 +5,9 @@ use Prim.Native.Nat.{ℕ, _+_, _-_, _≤_, _<_, _^_}
 use native.Mathlib.Omega.{arith}
 use mathlib.Core.Path.{_≡_}
 use borrow.Author.Needs.{needs}
-use Rattle.listed.proofs.SearchLaws.{Bracket, bracket-start, bracket-up, bracket-down, word, word-in, search-found, search-missed}
-use Rattle.listed.proofs.find.Statement.{statement}
-use Rattle.listed.proofs.find.Tie as tie
+use Rattle.membership.proofs.SearchLaws.{Bracket, bracket-start, bracket-up, bracket-down, word, word-in, search-found, search-missed}
+use Rattle.membership.proofs.find.Statement.{statement}
+use Rattle.membership.proofs.find.Tie as tie
 
 abbrev Inv-loop : tie.InvT-loop
 Inv-loop file at count guess s first all lo₀ hi₀ mid₀ step₀ lo hi mid step =

@@ -3,8 +3,8 @@
 use mathlib.Core.Path.{subst}
 use borrow.Author.Needs.{needs}
 use Rattle.leaves.specs.Holds.{meetsAll, setHolds, Orderly}
-use Rattle.listed.proofs.set_holds.Statement.{statement}
-use Rattle.listed.proofs.set_holds.Tie as tie
+use Rattle.membership.proofs.set_holds.Statement.{statement}
+use Rattle.membership.proofs.set_holds.Tie as tie
 
 among-requires : tie.Need-among-requires
 among-requires c κs = subst (Orderly _) (c .before .set .given .1) (c .before .before .before .before .pre)

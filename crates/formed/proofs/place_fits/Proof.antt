@@ -1,8 +1,8 @@
 -- `step::place_fits` meets its contract: one test where the place is used, the other where it is not.
 -- Assumes nothing.
-use Rattle.derivation.specs.Formed.{placeFits}
-use Rattle.derivation.proofs.step.place_fits.Statement.{statement}
-use Rattle.derivation.proofs.step.place_fits.Tie as tie
+use Rattle.formed.specs.Formed.{placeFits}
+use Rattle.formed.proofs.place_fits.Statement.{statement}
+use Rattle.formed.proofs.place_fits.Tie as tie
 
 pub place-fits-spec : {M : Type 1} → statement M
 unfolding placeFits

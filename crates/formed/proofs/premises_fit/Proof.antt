@@ -1,9 +1,9 @@
 -- `step::premises_fit` meets its contract: place by place.
 -- Assumes nothing.
 use borrow.Author.Needs.{needs}
-use Rattle.derivation.proofs.FormedLaws.{places-fit}
-use Rattle.derivation.proofs.step.premises_fit.Statement.{statement}
-use Rattle.derivation.proofs.step.premises_fit.Tie as tie
+use Rattle.formed.proofs.FormedLaws.{places-fit}
+use Rattle.formed.proofs.premises_fit.Statement.{statement}
+use Rattle.formed.proofs.premises_fit.Tie as tie
 
 returns : tie.Need-returns
 returns c =

@@ -2,9 +2,9 @@
 -- Assumes nothing.
 use borrow.Author.Needs.{needs}
 use Rattle.certificate.proofs.KnownLaws.{placed-state-sets, placed-action-sets}
-use Rattle.derivation.proofs.FormedLaws.{three-premises, formed-none, formed-past, formed-tests}
-use Rattle.derivation.proofs.step.well_formed.Statement.{statement}
-use Rattle.derivation.proofs.step.well_formed.Tie as tie
+use Rattle.formed.proofs.FormedLaws.{three-premises, formed-none, formed-past, formed-tests}
+use Rattle.formed.proofs.well_formed.Statement.{statement}
+use Rattle.formed.proofs.well_formed.Tie as tie
 
 returns : tie.Need-returns
 returns c bytes h = formed-none _ _ _ (h .value) (c .if1 .taken)
