@@ -1,7 +1,6 @@
 pub mod ClauseShapes
 pub mod AssumeLaws
 pub mod FillLaws
-pub mod OpenLaws
 pub mod SetLaws
 pub mod SeekLaws
 pub mod StartLaws

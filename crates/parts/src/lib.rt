@@ -1,8 +1,8 @@
 // A statement's leaves as they are written, before complements change sides.
 use certificate::Index;
+use nodes::node_at;
 use trees::Leaves;
 use trees::all_basic;
-use trees::node_at;
 use trees::none;
 use trees::of_kind;
 use trees::one;

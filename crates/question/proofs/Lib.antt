@@ -1,3 +1,1 @@
-pub mod AskLaws
-pub mod TriedLaws
 pub mod AskableLaws

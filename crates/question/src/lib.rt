@@ -1,29 +1,19 @@
 // The question whether a state is in an entry's set.
-use actions::action_marks;
-use actions::marks::is_marked;
 use certificate::Index;
 use certificate::Outline;
 use certificate::Places;
 use certificate::StateEntry;
 use certificate::views::index_of;
+use holding::member;
 use layout::read_layout;
-use lookup::action;
-use lookup::action_count;
 use lookup::state_set;
 use meaning::Answer;
-use membership::set_holds;
-use task::Ends;
-use task::after;
 use task::all_facts;
-use task::applies;
 ghost use mathlib.Core.Path.{_≡_};
 ghost use mathlib.Core.Bool.{false};
 ghost use Prim.Native.Nat.{_<_};
-ghost use lib.ListN.{length};
-ghost use Rattle.task.specs.Inner.{endsOf};
 ghost use Rattle.certificate.specs.Known.{Known, Placed, decoded};
-ghost use Rattle.meaning.specs.Sets.{inActions, regressed, inSet};
-ghost use Rattle.meaning.specs.Question.{hasProgression, shallow, askable, answerOf};
+ghost use Rattle.meaning.specs.Question.{shallow, askable, answerOf};
 ghost use Rattle.question.specs.Asked.{answerIn};
 
 // Whether an entry is at most d levels deep, with no progression on the way.
@@ -45,47 +35,6 @@ fn is_shallow(file: &[u8], index: &Index, e: u16, d: u8) -> bool
         }
         StateEntry::Progression(_, _) => false,
         StateEntry::Regression(a, _) => is_shallow(file, index, a, d - 1),
-    }
-}
-
-// Whether some action of set a applies in a state and leads into the set of entry e.
-fn try_each_action(file: &[u8], index: &Index, ends: Ends, e: u16, a: u16, s: u64) -> bool
-    requires { ⌜ Known (now file) (now index) × (ends ≡ endsOf (decoded (now file) .task)) ⌝ }
-    requires { ⌜ (hasProgression (decoded (now file)) e ≡ false) × (a < length (decoded (now file) .actionSets)) ⌝ }
-    ensures { λ r. ⌜ r ≡ regressed (decoded (now (file .entry)) .task) (inSet (decoded (now (file .entry))) e) (inActions (decoded (now (file .entry))) a) s ⌝ }
-{
-    let marks = action_marks(file, index, a);
-    let count = action_count(file);
-    let mut i = 0u16;
-    while i < count {
-        let act = action(file, i);
-        if is_marked(marks, i) & applies(act, s) {
-            if member(file, index, ends, e, after(act, s)) {
-                return true;
-            }
-        }
-        i += 1;
-    }
-    false
-}
-
-// Whether a state is in the set of entry e, where no progression is at or beneath the entry.
-fn member(file: &[u8], index: &Index, ends: Ends, e: u16, s: u64) -> bool
-    requires { ⌜ Known (now file) (now index) × (ends ≡ endsOf (decoded (now file) .task)) ⌝ }
-    requires { ⌜ hasProgression (decoded (now file)) e ≡ false ⌝ }
-    ensures { λ r. ⌜ r ≡ inSet (decoded (now (file .entry))) e s ⌝ }
-{
-    match state_set(file, index, e) {
-        StateEntry::Basic(b) => set_holds(file, ends, b, s),
-        StateEntry::Complement(a) => !member(file, index, ends, a, s),
-        StateEntry::Intersection(a, b) => {
-            member(file, index, ends, a, s) & member(file, index, ends, b, s)
-        }
-        StateEntry::Union(a, b) => {
-            member(file, index, ends, a, s) | member(file, index, ends, b, s)
-        }
-        StateEntry::Progression(_, _) => false,
-        StateEntry::Regression(a, b) => try_each_action(file, index, ends, a, b, s),
     }
 }
 

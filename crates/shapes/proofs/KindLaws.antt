@@ -26,7 +26,7 @@ use Rattle.certificate.specs.Views.{viewOf}
 use Rattle.certificate.specs.Index.{statePlace}
 use Rattle.leaves.specs.declared.Leaf.{Leaf}
 use Rattle.leaves.specs.Leaves.{kindOf, wordLeaf, leafIn, leavesIn, basicIn, setOf}
-use Rattle.trees.proofs.NodeLaws.{basic-kind}
+use Rattle.nodes.proofs.NodeLaws.{basic-kind}
 use Rattle.shapes.specs.Gathered.{leafOf, AllBasic, kindsOf}
 use Rattle.kinds.specs.Summary.{mayAnchor}
 use Rattle.shapes.specs.Arrays.{Put}

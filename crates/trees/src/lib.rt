@@ -1,8 +1,9 @@
-// Entries by their numbers, and lists of few entries: the leaves of a tree, those of a kind, and tests of all.
+// Lists of few entries: the leaves of a tree, those of a kind, and tests of all.
 use certificate::Index;
-use certificate::StateEntry;
-use leaves::kind_of;
 use lookup::state_set;
+use nodes::basic;
+use nodes::node_at;
+use nodes::node_of;
 ghost use mathlib.Core.Path.{_≡_};
 ghost use mathlib.Core.Bool.{_||_};
 ghost use mathlib.Core.List.{[], _∷_, _++_};
@@ -11,51 +12,12 @@ ghost use lib.Dec.{T, eqb};
 ghost use Rattle.certificate.specs.Known.{Known, decoded};
 ghost use Rattle.task.specs.Reach.{every};
 ghost use Rattle.meaning.specs.Shapes.{keep, leaves};
-ghost use Rattle.trees.specs.Trees.{numbers, nodeOf, nodeAt, listOf, Sound, Lists, Found, withWanted, hasKind, isBasicEntry, basicOr};
-
-// An entry's kind and the two entries that it names; 0 where it names none.
-pub struct Node {
-    pub kind: u8,
-    pub first: u16,
-    pub second: u16,
-}
+ghost use Rattle.trees.specs.Trees.{listOf, Sound, Lists, Found, withWanted, hasKind, basicOr};
 
 // At most nine entries.
 pub struct Leaves {
     pub items: [u16; 9],
     pub count: u8,
-}
-
-fn numbers(kind: u8, a: u16, b: u16) -> Node
-    ensures { λ r. ⌜ r ≡ numbers kind a b ⌝ }
-{
-    Node {
-        kind,
-        first: a,
-        second: b,
-    }
-}
-
-// The numbers of an entry.
-fn node_of(x: StateEntry) -> Node
-    ensures { λ r. ⌜ r ≡ nodeOf x ⌝ }
-{
-    match x {
-        StateEntry::Basic(b) => numbers(kind_of(b), 0, 0),
-        StateEntry::Complement(a) => numbers(6, a, 0),
-        StateEntry::Intersection(a, b) => numbers(7, a, b),
-        StateEntry::Union(a, b) => numbers(8, a, b),
-        StateEntry::Progression(a, b) => numbers(9, a, b),
-        StateEntry::Regression(a, b) => numbers(10, a, b),
-    }
-}
-
-// The numbers of the entry with a number.
-pub fn node_at(file: &[u8], index: &Index, e: u16) -> Node
-    requires { ⌜ Known (now file) (now index) ⌝ }
-    ensures { λ r. ⌜ r ≡ nodeAt (now (index .entry)) (decoded (now (file .entry))) e ⌝ }
-{
-    node_of(state_set(file, index, e))
 }
 
 // One entry more, where there are fewer than nine.
@@ -157,16 +119,6 @@ pub fn of_kind(file: &[u8], index: &Index, xs: Leaves, k: u8, is: bool) -> Leave
         i += 1;
     }
     out
-}
-
-// Whether a state set is of kinds 0 to 5.
-fn basic(x: StateEntry) -> bool
-    ensures { λ r. ⌜ r ≡ isBasicEntry x ⌝ }
-{
-    let StateEntry::Basic(_) = x else {
-        return false;
-    };
-    true
 }
 
 // Whether an entry is of kinds 0 to 5 or, where that is allowed, the complement of one that is.

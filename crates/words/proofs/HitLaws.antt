@@ -7,8 +7,9 @@ use mathlib.Core.Logic.{_↔_}
 use native.Mathlib.Omega.{arith}
 use native.Mathlib.Decide.{decLt}
 use lib.Bits.{bitAnd, bitOr, or-add-and, and-le-l, and-le-r}
-use Rattle.words.specs.Words.{turned8, Misses}
-use Rattle.words.proofs.TurnLaws.{clear8}
+use Rattle.words.specs.Words.{Misses}
+use Rattle.turned.specs.Turned.{turned8}
+use Rattle.turned.proofs.TurnLaws.{clear8}
 
 -- two masks are empty where all their facts together are none
 pub neither : (a b : ℕ) → bitOr a b ≡ 0 → (a ≡ 0) × (b ≡ 0)

@@ -3,7 +3,7 @@
 use mathlib.Core.Path.{_≡_}
 use mathlib.Core.Bool.{Bool, true}
 use mathlib.Core.List.{List}
-use Prim.Native.Nat.{ℕ, _+_, _*_, _/_, _%_, _≤_, _<_}
+use Prim.Native.Nat.{ℕ, _+_, _*_, _≤_, _<_}
 use lib.Bits.{bitAnd}
 use Rattle.meaning.specs.declared.Clause.{Clause}
 use Rattle.bytes.specs.Numbers.{clauseAt}
@@ -11,16 +11,6 @@ use Rattle.bytes.specs.Numbers.{clauseAt}
 -- clause i of those that stand in the file from a place
 unfoldable pub wordsAt : List ℕ → ℕ → ℕ → Clause
 wordsAt bytes at i = clauseAt bytes (at + 16 * i)
-
--- the bytes of a number in the other order: two, four and eight
-unfoldable pub turned2 : ℕ → ℕ
-turned2 x = x % 256 * 256 + x / 256
-
-unfoldable pub turned4 : ℕ → ℕ
-turned4 x = turned2 (x % 65536) * 65536 + turned2 (x / 65536)
-
-unfoldable pub turned8 : ℕ → ℕ
-turned8 x = turned4 (x % 4294967296) * 4294967296 + turned4 (x / 4294967296)
 
 -- the clause has no negative fact of the mask `on` and no positive fact of the mask `off`; where only Horn clauses matter (`two` is
 -- false), the latter is not asked

@@ -2,12 +2,13 @@
 use bytes::u64_at;
 use bytes::u64_in;
 use meaning::Clause;
+use turned::turned;
+use turned::u64_turned;
 ghost use mathlib.Core.Path.{_≡_};
 ghost use mathlib.Core.Logic.{_↔_};
 ghost use Prim.Native.Nat.{_+_, _*_, _<_, _≤_, _^_};
 ghost use lib.ListN.{length};
-ghost use Rattle.meaning.specs.Bytes.{number};
-ghost use Rattle.words.specs.Words.{turned2, turned4, turned8, wordsAt, Misses, MissedAt, FirstHit};
+ghost use Rattle.words.specs.Words.{wordsAt, Misses, MissedAt, FirstHit};
 
 // Clause i of those that stand in the file from a place.
 pub fn words_at(file: &[u8], at: u32, i: u32) -> Clause
@@ -33,62 +34,6 @@ pub fn words_in(file: &[u8], at: u32, i: u32) -> Clause
 }
 
 // ---- words in the machine's byte order
-
-// Numbers of the file with their bytes in the other order, as the machine has them: LLVM makes one load of that, and keeps it one in
-// a longer expression.
-fn two_turned(a: u8, b: u8) -> u16
-    ensures { λ r. ⌜ (a * 256 + b < 2 ^ 16) × (r ≡ turned2 (a * 256 + b)) ⌝ }
-{
-    (b as u16) * 256 + (a as u16)
-}
-
-fn u16_turned(file: &[u8], at: usize) -> u16
-    requires { ⌜ at + 2 ≤ length (now file) ⌝ }
-    ensures { λ r. ⌜ (number 2 (now (file .entry)) at < 2 ^ 16) × (r ≡ turned2 (number 2 (now (file .entry)) at)) ⌝ }
-{
-    two_turned(file[at], file[at + 1])
-}
-
-fn u32_turned(file: &[u8], at: usize) -> u32
-    requires { ⌜ at + 4 ≤ length (now file) ⌝ }
-    ensures { λ r. ⌜ (number 4 (now (file .entry)) at < 2 ^ 32) × (r ≡ turned4 (number 4 (now (file .entry)) at)) ⌝ }
-{
-    let first = u16_turned(file, at);
-    let second = u16_turned(file, at + 2);
-    (second as u32) * 65536 + (first as u32)
-}
-
-fn u64_turned(file: &[u8], at: usize) -> u64
-    requires { ⌜ at + 8 ≤ length (now file) ⌝ }
-    ensures { λ r. ⌜ (number 8 (now (file .entry)) at < 2 ^ 64) × (r ≡ turned8 (number 8 (now (file .entry)) at)) ⌝ }
-{
-    let first = u32_turned(file, at);
-    let second = u32_turned(file, at + 4);
-    (second as u64) * 4294967296 + (first as u64)
-}
-
-// A number with its bytes in the other order.
-fn turned_two(x: u16) -> u16
-    ensures { λ r. ⌜ r ≡ turned2 x ⌝ }
-{
-    (x % 256) * 256 + x / 256
-}
-
-fn turned_four(x: u32) -> u32
-    ensures { λ r. ⌜ r ≡ turned4 x ⌝ }
-{
-    let high = turned_two((x / 65536) as u16);
-    let low = turned_two((x % 65536) as u16);
-    (low as u32) * 65536 + (high as u32)
-}
-
-fn turned(x: u64) -> u64
-    ensures { λ r. ⌜ r ≡ turned8 x ⌝ }
-{
-    let high = turned_four((x / 4294967296) as u32);
-    let low = turned_four((x % 4294967296) as u32);
-    (low as u64) * 4294967296 + (high as u64)
-}
 
 // ---- clauses that have a fact in common with masks
 

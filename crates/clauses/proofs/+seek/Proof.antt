@@ -15,7 +15,7 @@ use Rattle.propagation.specs.declared.Effect.{Effect}
 use Rattle.propagation.specs.Clauses.{clauseOf, pulledBy, OfLeaf, LeafOf, LeftOf}
 use Rattle.propagation.specs.Propagation.{Witness}
 use Rattle.clauses.proofs.AssumeLaws.{assumed-conflict}
-use Rattle.clauses.proofs.OpenLaws.{before-room, opened-left}
+use Rattle.candidates.proofs.OpenLaws.{before-room, opened-left}
 use Rattle.clauses.proofs.SeekLaws.{witness-calm, candidate-base, candidate-found, sought-yes, sought-no, sought-not, ready-next}
 use Rattle.clauses.proofs.SeekLaws.{Missing, missing-more, missing-past, missing-all}
 use Rattle.clauses.proofs.seek.Reads as seek′
@@ -26,8 +26,8 @@ use Rattle.propagation.proofs.effect_of.Reads as effect-of-reads
 use Rattle.clauses.proofs.assume.Reads as assume-reads
 use Rattle.propagation.proofs.clause_at.Reads as clause-at-reads
 use Rattle.propagation.proofs.clause_count.Reads as clause-count-reads
-use Rattle.clauses.proofs.is_before.Reads as is-before-reads
-use Rattle.clauses.proofs.next_open.Reads as next-open-reads
+use Rattle.candidates.proofs.is_before.Reads as is-before-reads
+use Rattle.candidates.proofs.next_open.Reads as next-open-reads
 use Rattle.clauses.proofs.opposite.Reads as opposite-reads
 use Rattle.propagation.proofs.pulled.Reads as pulled-reads
 use Rattle.clauses.proofs.+seek.{statement}

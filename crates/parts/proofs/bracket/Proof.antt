@@ -3,7 +3,7 @@
 use mathlib.Core.Path.{refl}
 use borrow.Author.Needs.{needs}
 use Rattle.certificate.proofs.KnownLaws.{read-ordered}
-use Rattle.trees.proofs.NodeLaws.{node-first, node-second}
+use Rattle.nodes.proofs.NodeLaws.{node-first, node-second}
 use Rattle.parts.proofs.PartLaws.{bracket-parts}
 use Rattle.parts.proofs.bracket.Statement.{statement}
 use Rattle.parts.proofs.bracket.Tie as tie

@@ -12,7 +12,7 @@ use Rattle.certificate.specs.Known.{decoded}
 use Rattle.certificate.proofs.SeenLaws.{StateSeen}
 use Rattle.meaning.specs.Sets.{rounds}
 use Rattle.meaning.specs.Question.{shallowNode, shallow}
-use Rattle.question.proofs.AskLaws.{seen, shallow-at}
+use Rattle.holding.proofs.AskLaws.{seen, shallow-at}
 use Rattle.question.proofs.is_shallow.Reads as is-shallow
 use Rattle.question.proofs.is_shallow.Kinds as is-shallow-kinds
 use Rattle.question.proofs.+is_shallow.Lts-is_shallow as is-shallow-lts

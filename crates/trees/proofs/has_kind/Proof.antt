@@ -2,7 +2,7 @@
 -- Assumes nothing.
 use borrow.Author.Needs.{needs}
 use Rattle.trees.specs.Trees.{hasKind}
-use Rattle.trees.proofs.NodeLaws.{node-kind}
+use Rattle.nodes.proofs.NodeLaws.{node-kind}
 use Rattle.trees.proofs.has_kind.Statement.{statement}
 use Rattle.trees.proofs.has_kind.Tie as tie
 

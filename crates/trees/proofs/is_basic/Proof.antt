@@ -7,8 +7,9 @@ use lib.Dec.{eqb}
 use borrow.Author.Needs.{needs}
 use Rattle.certificate.specs.Known.{decoded}
 use Rattle.meaning.specs.Shapes.{isBasic, isComplement}
-use Rattle.trees.specs.Trees.{nodeOf, nodeAt, basicOr}
-use Rattle.trees.proofs.NodeLaws.{entry-basic, node-kind, node-first}
+use Rattle.trees.specs.Trees.{basicOr}
+use Rattle.nodes.specs.Nodes.{nodeOf, nodeAt}
+use Rattle.nodes.proofs.NodeLaws.{entry-basic, node-kind, node-first}
 use Rattle.trees.proofs.is_basic.Statement.{statement}
 use Rattle.trees.proofs.is_basic.Tie as tie
 

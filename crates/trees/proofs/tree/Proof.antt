@@ -6,7 +6,7 @@ use native.Mathlib.Omega.{arith}
 use borrow.Author.Needs.{needs}
 use Rattle.certificate.specs.Known.{decoded}
 use Rattle.certificate.proofs.KnownLaws.{read-ordered}
-use Rattle.trees.proofs.NodeLaws.{node-first, node-second, node-is, node-other}
+use Rattle.nodes.proofs.NodeLaws.{node-first, node-second, node-is, node-other}
 use Rattle.trees.proofs.TreeLaws.{rest, rest-sound, Tour, tour-start, tour-many, tour-end, tour-leaf, tour-tree}
 use Rattle.trees.proofs.tree.Statement.{statement}
 use Rattle.trees.proofs.tree.Tie as tie

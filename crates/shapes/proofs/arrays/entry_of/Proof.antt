@@ -2,7 +2,7 @@
 -- Assumes nothing.
 use borrow.Author.Needs.{needs}
 use Rattle.shapes.specs.Arrays.{entryOf}
-use Rattle.trees.proofs.NodeLaws.{node-first}
+use Rattle.nodes.proofs.NodeLaws.{node-first}
 use Rattle.shapes.proofs.arrays.entry_of.Statement.{statement}
 use Rattle.shapes.proofs.arrays.entry_of.Tie as tie
 

@@ -4,7 +4,7 @@ use borrow.Author.Needs.{needs}
 use Rattle.meaning.specs.Shapes.{isComplement}
 use Rattle.trees.specs.Trees.{hasKind}
 use Rattle.shapes.specs.Arrays.{onSide, wants}
-use Rattle.trees.proofs.NodeLaws.{node-kind}
+use Rattle.nodes.proofs.NodeLaws.{node-kind}
 use Rattle.shapes.proofs.arrays.wanted.Statement.{statement}
 use Rattle.shapes.proofs.arrays.wanted.Tie as tie
 
