@@ -1,4 +1,4 @@
--- `clauses::is_before` meets its contract.
+-- `candidates::is_before` meets its contract.
 -- Assumes nothing.
 use borrow.Author.Needs.{needs}
 use Prim.Native.Nat.{_≤_, _-_}

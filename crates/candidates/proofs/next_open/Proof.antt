@@ -1,4 +1,4 @@
--- `clauses::next_open` meets its contract: only clauses in the file are passed over.
+-- `candidates::next_open` meets its contract: only clauses in the file are passed over.
 -- Assumes nothing.
 use mathlib.Core.Path.{sym, _∙_}
 use borrow.Author.Needs.{needs}

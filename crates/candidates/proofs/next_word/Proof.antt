@@ -1,4 +1,4 @@
--- `clauses::next_word` meets its contract.
+-- `candidates::next_word` meets its contract.
 -- Assumes nothing.
 use borrow.Author.Needs.{needs}
 use native.Mathlib.Omega.{arith}

@@ -1,4 +1,4 @@
--- `clauses::same_words` meets its contract.
+-- `candidates::same_words` meets its contract.
 -- Assumes nothing.
 use mathlib.Core.Path.{_∙_}
 use borrow.Author.Needs.{needs}

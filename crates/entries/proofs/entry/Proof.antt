@@ -1,4 +1,4 @@
--- `bodies::entry` meets its contract.
+-- `entries::entry` meets its contract.
 -- Assumes nothing.
 use Prim.Native.Nat.{ℕ, _+_, _-_}
 use native.Mathlib.Omega.{arith}

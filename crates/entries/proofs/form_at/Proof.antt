@@ -1,4 +1,4 @@
--- `bodies::form_at` meets its contract.
+-- `entries::form_at` meets its contract.
 -- Assumes nothing.
 use mathlib.Core.Path.{sym, ap, _∙_}
 use mathlib.Core.Bool.{Bool}

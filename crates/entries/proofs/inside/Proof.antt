@@ -1,4 +1,4 @@
--- `bodies::inside` meets its contract.
+-- `entries::inside` meets its contract.
 -- Assumes nothing.
 use mathlib.Core.Path.{sym}
 use borrow.Author.Needs.{needs}

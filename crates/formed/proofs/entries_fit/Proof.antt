@@ -1,4 +1,4 @@
--- `step::entries_fit` meets its contract: by what the judgement is about.
+-- `formed::entries_fit` meets its contract: by what the judgement is about.
 -- Assumes nothing.
 use borrow.Author.Needs.{needs}
 use Rattle.formed.specs.Formed.{entriesIn}

@@ -1,4 +1,4 @@
--- `step::kind_of` meets its contract: by cases.
+-- `formed::kind_of` meets its contract: by cases.
 -- Assumes nothing.
 use borrow.Author.Needs.{needs}
 use Rattle.rules.specs.Derives.{kindSaid}

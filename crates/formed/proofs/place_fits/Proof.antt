@@ -1,4 +1,4 @@
--- `step::place_fits` meets its contract: one test where the place is used, the other where it is not.
+-- `formed::place_fits` meets its contract: one test where the place is used, the other where it is not.
 -- Assumes nothing.
 use Rattle.formed.specs.Formed.{placeFits}
 use Rattle.formed.proofs.place_fits.Statement.{statement}

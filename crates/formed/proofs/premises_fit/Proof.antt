@@ -1,4 +1,4 @@
--- `step::premises_fit` meets its contract: place by place.
+-- `formed::premises_fit` meets its contract: place by place.
 -- Assumes nothing.
 use borrow.Author.Needs.{needs}
 use Rattle.formed.proofs.FormedLaws.{places-fit}

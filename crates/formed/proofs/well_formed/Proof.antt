@@ -1,4 +1,4 @@
--- `step::well_formed` meets its contract: a number outside the table names no rule; of the others the tests are those of the table.
+-- `formed::well_formed` meets its contract: a number outside the table names no rule; of the others the tests are those of the table.
 -- Assumes nothing.
 use borrow.Author.Needs.{needs}
 use Rattle.certificate.proofs.KnownLaws.{placed-state-sets, placed-action-sets}

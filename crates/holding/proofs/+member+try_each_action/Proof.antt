@@ -1,4 +1,4 @@
--- `question::member` and `question::try_each_action`: each names an entry of a lower number. 2e is the measure of `member` at entry e,
+-- `holding::member` and `holding::try_each_action`: each names an entry of a lower number. 2e is the measure of `member` at entry e,
 -- and 2e + 1 that of `try_each_action` for entry e.
 -- Assumes nothing.
 use borrow.Author.Needs.{needs}

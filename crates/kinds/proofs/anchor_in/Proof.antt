@@ -1,4 +1,4 @@
--- `sorts::anchor_in` meets its contract: none of the leaves passed so far is an anchor.
+-- `kinds::anchor_in` meets its contract: none of the leaves passed so far is an anchor.
 -- Assumes nothing.
 use mathlib.Core.Path.{_≡_, sym, ap, _∙_}
 use Prim.Native.Nat.{_-_, _≤_}

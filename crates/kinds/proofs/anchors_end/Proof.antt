@@ -1,4 +1,4 @@
--- `sorts::anchors_end` meets its contract.
+-- `kinds::anchors_end` meets its contract.
 -- Assumes nothing.
 use mathlib.Core.Path.{sym}
 use Rattle.kinds.proofs.SummaryLaws.{to-inside, to-outside}

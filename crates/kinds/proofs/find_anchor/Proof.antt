@@ -1,4 +1,4 @@
--- `sorts::find_anchor` meets its contract.
+-- `kinds::find_anchor` meets its contract.
 -- Assumes nothing.
 use borrow.Author.Needs.{needs}
 use Rattle.kinds.proofs.SummaryLaws.{from-inside, to-inside, from-outside, to-outside}

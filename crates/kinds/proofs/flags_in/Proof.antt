@@ -1,4 +1,4 @@
--- `sorts::flags_in` meets its contract.
+-- `kinds::flags_in` meets its contract.
 -- Assumes nothing.
 use borrow.Author.Needs.{needs}
 use Rattle.kinds.specs.Summary.{flagsIn}

@@ -1,4 +1,4 @@
--- `sorts::kind_in` meets its contract: what is found among the leaves passed so far.
+-- `kinds::kind_in` meets its contract: what is found among the leaves passed so far.
 -- Assumes nothing.
 use mathlib.Core.Path.{_≡_, ap, _∙_}
 use Prim.Native.Nat.{_-_, _≤_}

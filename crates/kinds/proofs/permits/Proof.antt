@@ -1,4 +1,4 @@
--- `sorts::permits` meets its contract.
+-- `kinds::permits` meets its contract.
 -- Assumes nothing.
 use mathlib.Core.Path.{sym}
 use Rattle.kinds.specs.Summary.{clausesBy, statesBy, pairBy}

@@ -1,4 +1,4 @@
--- `sorts::summary` meets its contract.
+-- `kinds::summary` meets its contract.
 -- Assumes nothing.
 use mathlib.Core.Path.{refl}
 use borrow.Author.Needs.{needs}

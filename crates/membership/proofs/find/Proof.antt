@@ -1,4 +1,4 @@
--- `listed::find` meets its contract. The invariant: where the state is among them, it stands from `lo` on and before
+-- `membership::find` meets its contract. The invariant: where the state is among them, it stands from `lo` on and before
 -- `hi`, and so does the next one looked at.
 -- Assumes nothing.
 use Prim.Native.Nat.{ℕ, _+_, _-_, _≤_, _<_, _^_}

@@ -1,4 +1,4 @@
--- `listed::meets` meets its contract.
+-- `membership::meets` meets its contract.
 -- Assumes nothing.
 use mathlib.Core.Path.{ap}
 use mathlib.Core.Bool.{Bool, not, _||_}

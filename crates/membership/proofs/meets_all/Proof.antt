@@ -1,4 +1,4 @@
--- `listed::meets_all` meets its contract. The invariant: the state meets the first `i` clauses.
+-- `membership::meets_all` meets its contract. The invariant: the state meets the first `i` clauses.
 -- Assumes nothing.
 use Prim.Native.Nat.{ℕ, _-_, _≤_}
 use mathlib.Core.Path.{_≡_, ap, sym, _∙_}

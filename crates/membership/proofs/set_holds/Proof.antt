@@ -1,4 +1,4 @@
--- `listed::set_holds` meets its contract: each case by its own test.
+-- `membership::set_holds` meets its contract: each case by its own test.
 -- Assumes nothing.
 use mathlib.Core.Path.{subst}
 use borrow.Author.Needs.{needs}

@@ -1,4 +1,4 @@
--- `trees::basic` meets its contract: the constructor says it.
+-- `nodes::basic` meets its contract: the constructor says it.
 -- Assumes nothing.
 use borrow.Author.Needs.{needs}
 use Rattle.nodes.specs.Nodes.{isBasicEntry}

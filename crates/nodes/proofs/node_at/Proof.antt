@@ -1,4 +1,4 @@
--- `trees::node_at` meets its contract.
+-- `nodes::node_at` meets its contract.
 -- Assumes nothing.
 use Rattle.nodes.specs.Nodes.{nodeAt}
 use borrow.Author.Needs.{needs}

@@ -1,4 +1,4 @@
--- `trees::node_of` meets its contract: each case gives its own numbers.
+-- `nodes::node_of` meets its contract: each case gives its own numbers.
 -- Assumes nothing.
 use borrow.Author.Needs.{needs}
 use Rattle.nodes.specs.Nodes.{nodeOf}

@@ -1,4 +1,4 @@
--- `words::turned` meets its contract.
+-- `turned::turned` meets its contract.
 -- Assumes nothing.
 use borrow.Author.Needs.{needs}
 use Rattle.turned.specs.Turned.{turned8}

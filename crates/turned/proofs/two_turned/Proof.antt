@@ -1,4 +1,4 @@
--- `words::two_turned` meets its contract.
+-- `turned::two_turned` meets its contract.
 -- Assumes nothing.
 use borrow.Author.Needs.{needs}
 use native.Mathlib.Omega.{arith}

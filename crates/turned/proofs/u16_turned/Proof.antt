@@ -1,4 +1,4 @@
--- `words::u16_turned` meets its contract.
+-- `turned::u16_turned` meets its contract.
 -- Assumes nothing.
 use borrow.Author.Needs.{needs}
 use Rattle.bytes.proofs.ByteLaws.{number-two}
