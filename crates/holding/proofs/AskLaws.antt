@@ -24,7 +24,7 @@ use Rattle.meaning.specs.Sets.{rounds, stateNode, inSet}
 use Rattle.meaning.proofs.Nodes.{in-node}
 use Rattle.leaves.specs.Leaves.{basicIn, setOf}
 use Rattle.leaves.specs.Holds.{setHolds, Orderly}
-use Rattle.leaves.proofs.KnownLeaves.{basic-entry, known-items, known-holds, known-orderly}
+use Rattle.leaves.proofs.KnownLeaves.{lawful-orderly, known-items, known-holds, known-lawful}
 use Rattle.meaning.specs.Question.{progressionNode, hasProgression, shallowNode, shallow}
 use Rattle.meaning.proofs.Shallow.{progression-node}
 
@@ -70,12 +70,15 @@ module _ (bytes : List ℕ) (index : List ℕ) (k : Known bytes index) (e : ℕ)
       as-set = ap basicIn (sym q ∙ z)
 
       pub set-orderly : Orderly bytes b
-      set-orderly = subst (Orderly bytes) as-set (known-orderly bytes index k e)
+      set-orderly =
+          let w = seen (Basic b) z in
+          subst (Orderly bytes) as-set
+          (lawful-orderly bytes (f .task .facts) (setOf index f e) (known-lawful bytes index k e (w .0) (w .1)))
 
       pub set-in : (ends : Ends) → ends ≡ endsOf (f .task) → (s : ℕ) → setHolds bytes ends b s ≡ inSet f e s
       set-in ends t s =
           let w = seen (Basic b) z in
-          rw (t, ← as-set) (known-holds bytes index k e s (basic-entry f e (w .0) (w .1)))
+          rw (t, ← as-set) (known-holds bytes index k e (w .0) (w .1) s)
 
   -- ---- by the entry: its depth, what is clear beneath it, and what it holds
 

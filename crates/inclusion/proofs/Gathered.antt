@@ -11,11 +11,13 @@ use Rattle.task.specs.declared.Action.{Action}
 use Rattle.task.specs.declared.Ends.{Ends}
 use Rattle.task.specs.Inner.{endsOf}
 use Rattle.certificate.specs.Known.{Known, decoded}
+use Rattle.certificate.proofs.KnownLaws.{read-ordered}
 use Rattle.meaning.specs.File.{File}
 use Rattle.meaning.specs.Shapes.{isBasic}
 use Rattle.counterexample.specs.Counter.{Asked, seen, AllIn, NoneIn, Refuted}
 use Rattle.counterexample.proofs.Lists.{tests-agree}
 use Rattle.counterexample.proofs.Moved.{asked}
+use Rattle.counterexample.proofs.LeafLaws.{basic-of}
 use Rattle.leaves.specs.declared.Leaf.{Leaf}
 use Rattle.leaves.specs.Lists.{Each, leafHolds, Countered}
 use Rattle.leaves.proofs.KnownLeaves.{known-holds}
@@ -32,7 +34,9 @@ module _ (bytes : List ℕ) (index : List ℕ) (k : Known bytes index) where
     -- a leaf holds the state that it is asked about just where its entry does
     leaf-holds : (x : Asked) → T (isBasic f (x .entry)) → leafHolds bytes ends a s (leafOf index f x) ≡ asked f a s x
     unfolding leafHolds leafOf
-    leaf-holds x b = known-holds bytes index k (x .entry) (seen (x .after) a s) b
+    leaf-holds x b =
+        let (c, q) = basic-of f (read-ordered bytes (k .read)) (x .entry) b in
+        known-holds bytes index k (x .entry) c q (seen (x .after) a s)
 
     all-hold : (xs : List Asked) → AllBasic f xs → Each (λ y. T (leafHolds bytes ends a s y)) (map (leafOf index f) xs) ↔ AllIn f a s xs
     all-hold [] b = ((λ h. h), (λ h. h))

@@ -38,19 +38,11 @@ module _ (right : List ℕ) (r : ℕ) (few : r ≤ 2) (room : 2 ≤ length right
   pub countered-both : (bytes : List ℕ) (ends : Ends) (a : Action) (left : List Leaf)
       → Countered bytes ends a left (leavesIn right 2) ↔ Countered bytes ends a left (leavesIn right r)
   unfolding wordLeaf basicOf leafHolds setHolds
-  countered-both bytes ends a left = (
-    (λ w. record {
-      state = w .state;
-      low = w .low;
-      allowed = w .allowed;
-      holds = w .holds;
-      fails = first (λ x. T (not (leafHolds bytes ends a (w .state) x))) (w .fails);
-    }),
-    (λ w. record {
-      state = w .state;
-      low = w .low;
-      allowed = w .allowed;
-      holds = w .holds;
-      fails = both (λ x. T (not (leafHolds bytes ends a (w .state) x))) tt (w .fails);
-    }),
-  )
+  countered-both bytes ends a left = (by 2 r (λ s. first (Fails s)), by r 2 (λ s. both (Fails s) tt))
+    where
+      Fails : ℕ → Leaf → Type 0
+      Fails s x = T (not (leafHolds bytes ends a s x))
+
+      by : (k l : ℕ) → ((s : ℕ) → Each (Fails s) (leavesIn right k) → Each (Fails s) (leavesIn right l))
+          → Countered bytes ends a left (leavesIn right k) → Countered bytes ends a left (leavesIn right l)
+      by k l h w = record { state = w .state; low = w .low; allowed = w .allowed; holds = w .holds; fails = h (w .state) (w .fails) }

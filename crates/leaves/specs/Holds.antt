@@ -1,13 +1,15 @@
 -- Which states a leaf's set holds, by the bytes of the file. Only the code's inner promises speak of this.
 -- Assumes nothing.
-use Prim.Native.Nat.{ℕ, zero, suc, _+_, _*_, _≤_}
+use Prim.Native.Nat.{ℕ, zero, suc, _+_, _*_, _≤_, _<_}
 use mathlib.Core.Bool.{Bool, false}
 use mathlib.Core.List.{List, [], _∷_}
 use lib.ListN.{length}
+use lib.Dec.{T}
 use Rattle.task.specs.declared.Ends.{Ends}
 use Rattle.task.specs.Inner.{atInit, atGoal}
 use Rattle.task.specs.Reach.{member}
 use Rattle.bytes.specs.Numbers.{numberAt}
+use Rattle.bytes.specs.ClauseRule.{clauseRule}
 use Rattle.meaning.specs.Writing.{Ascending}
 use Rattle.meaning.specs.Sets.{allBelow, meets}
 use Rattle.words.specs.Words.{wordsAt}
@@ -47,3 +49,8 @@ Orderly bytes Goal = Unit {0}
 Orderly bytes (Explicit x) = InOrder bytes (x .at) (x .count)
 Orderly bytes (Horn x) = x .at + 16 * x .count ≤ length bytes
 Orderly bytes (TwoCnf x) = x .at + 16 * x .count ≤ length bytes
+
+-- clauses stand within the file, and keep the rule of two-literal or of Horn clauses
+pub record Ruled (bytes : List ℕ) (two : Bool) (x : Span) : Type 0 where
+  pub inside : x .at + 16 * x .count ≤ length bytes
+  pub shape : (i : ℕ) → i < x .count → T (clauseRule two (wordsAt bytes (x .at) i .positive) (wordsAt bytes (x .at) i .negative))

@@ -29,7 +29,9 @@ refused-by-parts number place word first space second end e (a, (na, ea)) es (b,
     na,
     (
       nb,
-      ee ∙ ap (λ (t : List ℕ). t ++ (10 ∷ [])) (eb ∙ ap (λ (t : List ℕ). t ++ b) (es ∙ ap (λ (t : List ℕ). t ++ (32 ∷ [])) (ea ∙ ap (λ (t : List ℕ). t ++ a) e))),
+      ee
+          ∙ ap (λ (t : List ℕ). t ++ (10 ∷ []))
+          (eb ∙ ap (λ (t : List ℕ). t ++ b) (es ∙ ap (λ (t : List ℕ). t ++ (32 ∷ [])) (ea ∙ ap (λ (t : List ℕ). t ++ a) e))),
     ),
   ),
 )

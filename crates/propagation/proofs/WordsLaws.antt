@@ -16,7 +16,8 @@ use Rattle.propagation.specs.declared.Effect.{Effect}
 use Rattle.propagation.specs.declared.Words.{Words}
 use Rattle.propagation.specs.declared.Words.the-variants.{Absent, At}
 use Rattle.propagation.specs.Clauses.{clauseCount, wordsOf, ownClause, clauseOf, pulledBy}
-use Rattle.propagation.specs.Clauses.{Only, Below, ofWords, ofOwn, ofSet, Inside, Ruled, ClausalSet}
+use Rattle.leaves.specs.Holds.{Ruled}
+use Rattle.propagation.specs.Clauses.{Only, Below, ofWords, ofOwn, ofSet, Inside, ClausalSet}
 use Rattle.propagation.specs.Propagation.{Based}
 
 -- ---- a place is none, or one

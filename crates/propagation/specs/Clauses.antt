@@ -6,20 +6,20 @@ use Prim.Native.Nat.{ℕ, _+_, _*_, _^_, _<_, _≤_}
 use mathlib.Core.Bool.{Bool, true, false, not, _||_}
 use mathlib.Core.List.{List}
 use lib.ListN.{length}
-use lib.Dec.{T, eqb}
+use lib.Dec.{eqb}
 use lib.Bits.{bitAnd, bitOr}
 use Rattle.task.specs.declared.Action.{Action}
 use Rattle.task.specs.declared.Ends.{Ends}
 use Rattle.task.specs.Facts.{without}
 use Rattle.task.specs.Inner.{has, noAction}
 use Rattle.meaning.specs.declared.Clause.{Clause}
-use Rattle.bytes.specs.ClauseRule.{clauseRule}
 use Rattle.words.specs.Words.{wordsAt}
 use Rattle.certificate.specs.declared.Span.{Span}
 use Rattle.certificate.specs.declared.BasicEntry.{BasicEntry}
 use Rattle.certificate.specs.declared.BasicEntry.the-variants.{Empty, Init, Goal, Explicit, Horn, TwoCnf}
 use Rattle.leaves.specs.declared.Leaf.{Leaf}
 use Rattle.leaves.specs.Leaves.{leafIn, leavesIn}
+use Rattle.leaves.specs.Holds.{Ruled}
 use Rattle.leaves.specs.Lists.{Each}
 use Rattle.propagation.specs.declared.Effect.{Effect}
 use Rattle.propagation.specs.declared.Setting.{Setting}
@@ -119,11 +119,6 @@ abbrev pub LeftOf : List ℕ → List ℕ → Setting → Clause → Type 0
 LeftOf bytes leaves k = Below (LeafOf bytes leaves k) (k .m)
 
 -- ---- what callers owe
-
--- clauses stand within the file, and keep the rule of two-literal or of Horn clauses
-pub record Ruled (bytes : List ℕ) (two : Bool) (x : Span) : Type 0 where
-  pub inside : x .at + 16 * x .count ≤ length bytes
-  pub shape : (i : ℕ) → i < x .count → T (clauseRule two (wordsAt bytes (x .at) i .positive) (wordsAt bytes (x .at) i .negative))
 
 -- a set's clauses that stand in the file stand within it
 abbrev pub Inside : List ℕ → BasicEntry → Type 0

@@ -5,7 +5,8 @@ use Prim.Native.Nat.{ℕ, _+_, _-_, _≤_, _<_, _^_}
 use native.Mathlib.Omega.{arith}
 use mathlib.Core.Path.{_≡_}
 use borrow.Author.Needs.{needs}
-use Rattle.membership.proofs.SearchLaws.{Bracket, bracket-start, bracket-up, bracket-down, word, word-in, search-found, search-missed}
+use Rattle.membership.proofs.SearchLaws.{Bracket, bracket-start, bracket-up, bracket-down, word, word-in}
+use Rattle.membership.proofs.SearchLaws.{search-found, search-missed}
 use Rattle.membership.proofs.find.Statement.{statement}
 use Rattle.membership.proofs.find.Tie as tie
 

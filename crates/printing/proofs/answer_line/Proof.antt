@@ -14,7 +14,8 @@ unfolding AnswerLine in-text
 returns c =
     let put = c .before .before in (
       (omega arith, simp length-take (omega arith)),
-      subst (λ (a : Answer). AnswerLine a (take (put .put .result) (put .put .last .0))) (sym (put .before .before .before .enum-told .given .1)) (put .put .ensures .1 .1),
+      subst (λ (a : Answer). AnswerLine a (take (put .put .result) (put .put .last .0)))
+          (sym (put .before .before .before .enum-told .given .1)) (put .put .ensures .1 .1),
     )
 
 returns-2 : tie.Need-returns-2
@@ -22,7 +23,8 @@ unfolding AnswerLine out-text
 returns-2 c =
     let put = c .before .before in (
       (omega arith, simp length-take (omega arith)),
-      subst (λ (a : Answer). AnswerLine a (take (put .put2 .result) (put .put2 .last .0))) (sym (put .before .before .before .enum-told2 .given .1)) (put .put2 .ensures .1 .1),
+      subst (λ (a : Answer). AnswerLine a (take (put .put2 .result) (put .put2 .last .0)))
+          (sym (put .before .before .before .enum-told2 .given .1)) (put .put2 .ensures .1 .1),
     )
 
 returns-3 : tie.Need-returns-3
@@ -30,7 +32,8 @@ unfolding AnswerLine
 returns-3 c =
     let put = c .before .before in (
       put .refused-line .ensures .0,
-      subst (λ (a : Answer). AnswerLine a (take (put .refused-line .result) (put .refused-line .last .1 .1 .0))) (sym (put .before .before .before .answer .given .1)) (put .refused-line .ensures .1),
+      subst (λ (a : Answer). AnswerLine a (take (put .refused-line .result) (put .refused-line .last .1 .1 .0)))
+          (sym (put .before .before .before .answer .given .1)) (put .refused-line .ensures .1),
     )
 
 pub answer-line-spec : {M : Type 1} → statement M

@@ -46,7 +46,8 @@ returns : tie.Need-returns Inv-loop μ-loop
 returns c =
     let l = c .before .loop in
     let args = c .before .before .args in
-    (l .inv .2, (omega arith, l .inv .3 ∙ ap (λ (t : List ℕ). take (args .at) (now (args .line)) ++ t) (take-all (l .i) (now (args .text)) (omega arith))))
+    let all = take-all (l .i) (now (args .text)) (omega arith) in
+    (l .inv .2, (omega arith, l .inv .3 ∙ ap (λ (t : List ℕ). take (args .at) (now (args .line)) ++ t) all))
 
 pub put-spec : {M : Type 1} → statement M
 put-spec =

@@ -18,7 +18,8 @@ returns c =
     let word = first .before .before .before .before in
     let args = word .before .before .before .before .args in (
       (omega arith, simp length-take (omega arith)),
-      refused-by-parts (args .number) (args .place) _ _ _ _ _ (word .put .ensures .1 .1) (first .put-number .ensures .1 .1) (space .put2 .ensures .1 .1) (second .put-number2 .ensures .1 .1) (end .put3 .ensures .1 .1),
+      refused-by-parts (args .number) (args .place) _ _ _ _ _ (word .put .ensures .1 .1) (first .put-number .ensures .1 .1)
+          (space .put2 .ensures .1 .1) (second .put-number2 .ensures .1 .1) (end .put3 .ensures .1 .1),
     )
 
 pub refused-line-spec : {M : Type 1} → statement M

@@ -14,7 +14,8 @@ unfolding ReplyLine accepted
 returns c =
     let put = c .before .before in (
       (omega arith, simp length-take (omega arith)),
-      subst (λ (r : Reply). ReplyLine r (take (put .put .result) (put .put .last .0))) (sym (put .before .before .before .enum-told .given .1)) (put .put .ensures .1 .1),
+      subst (λ (r : Reply). ReplyLine r (take (put .put .result) (put .put .last .0)))
+          (sym (put .before .before .before .enum-told .given .1)) (put .put .ensures .1 .1),
     )
 
 returns-2 : tie.Need-returns-2
@@ -22,7 +23,8 @@ unfolding ReplyLine
 returns-2 c =
     let put = c .before .before in (
       put .refused-line .ensures .0,
-      subst (λ (r : Reply). ReplyLine r (take (put .refused-line .result) (put .refused-line .last .1 .1 .0))) (sym (put .before .before .before .reply .given .1)) (put .refused-line .ensures .1),
+      subst (λ (r : Reply). ReplyLine r (take (put .refused-line .result) (put .refused-line .last .1 .1 .0)))
+          (sym (put .before .before .before .reply .given .1)) (put .refused-line .ensures .1),
     )
 
 pub reply-line-spec : {M : Type 1} → statement M
