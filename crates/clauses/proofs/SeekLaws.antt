@@ -54,7 +54,7 @@ module _ (two : Bool) (P : Clause → Type 0) (x : Assignment) (i : ℕ) where
   fixed-already e =
       record {
         goes = going-none _ x;
-        known = omega (arith, bit-or i (x .on) (x .off));
+        decided = omega (arith, bit-or i (x .on) (x .off));
         settled = λ z h. h;
         none = λ t s g m. true≢false (sym t ∙ g .calm);
       }
@@ -63,7 +63,7 @@ module _ (two : Bool) (P : Clause → Type 0) (x : Assignment) (i : ℕ) where
   fixed-off y u z =
       record {
         goes = going-under (λ s p. absurd p) (u .goes);
-        known = omega (arith, u .told true i (bit-same i));
+        decided = omega (arith, u .told true i (bit-same i));
         settled = u .settled;
         none = λ t. absurd (true≢false (sym t ∙ z));
       }
@@ -73,7 +73,7 @@ module _ (two : Bool) (P : Clause → Type 0) (x : Assignment) (i : ℕ) where
   fixed-on y r u t v =
       record {
         goes = going-under (λ s p. absurd p) (v .goes);
-        known = omega (arith, v .told false i (bit-same i));
+        decided = omega (arith, v .told false i (bit-same i));
         settled = v .settled;
         none = λ t′ s g m. elim (decLt (bit i s) 1) [
           | yes l ↦
@@ -101,12 +101,12 @@ pub record Trying (two : Bool) (P : Clause → Type 0) (i : ℕ) (x r : Assignme
   pub calm : r .conflict ≡ false
   pub apart : Apart r
   pub settled : Settled two P r
-  pub known : (f : ℕ) → f < i → 1 ≤ bit f (r .on) + bit f (r .off)
+  pub decided : (f : ℕ) → f < i → 1 ≤ bit f (r .on) + bit f (r .off)
 
 module _ (two : Bool) (P : Clause → Type 0) where
   pub trying-none : (x : Assignment) → x .conflict ≡ false → Ready two P x → Trying two P 0 x x
   trying-none x z r =
-      record { goes = going-none _ x; calm = z; apart = r .apart z; settled = r .settled z; known = λ f l. absurd (omega arith) }
+      record { goes = going-none _ x; calm = z; apart = r .apart z; settled = r .settled z; decided = λ f l. absurd (omega arith) }
 
   pub trying-more : {i : ℕ} {x y r : Assignment} → Trying two P i x y → Fixed two P i y r → r .conflict ≡ false → Trying two P (i + 1) x r
   trying-more {i} {x} {y} {r} u v z =
@@ -115,9 +115,9 @@ module _ (two : Bool) (P : Clause → Type 0) where
         calm = z;
         apart = v .goes .apart z (u .apart);
         settled = v .settled z (u .settled);
-        known = λ f l. elim (decLt f i) [
-          | yes k ↦ omega (arith, u .known f k, v .goes .grows true f, v .goes .grows false f)
-          | no k ↦ let e : f ≡ i = omega arith in rw e (v .known)
+        decided = λ f l. elim (decLt f i) [
+          | yes k ↦ omega (arith, u .decided f k, v .goes .grows true f, v .goes .grows false f)
+          | no k ↦ let e : f ≡ i = omega arith in rw e (v .decided)
         ];
       }
 
@@ -129,7 +129,7 @@ module _ (two : Bool) (P : Clause → Type 0) where
   trying-done e {i} {x} {r} l u fits = (
     r .on,
     agrees-before (λ s. ⊥) x r (r .on) (u .goes) (on-agrees r fits (u .calm) (u .apart)),
-    full-fills P r fits (u .calm) (u .apart) (general e r (u .settled)) (λ f k. u .known f (omega arith)),
+    full-fills P r fits (u .calm) (u .apart) (general e r (u .settled)) (λ f k. u .decided f (omega arith)),
   )
 
   -- neither value of a fact can be: there is no model, since what is known could be put into it

@@ -146,7 +146,7 @@ module _ (f : File) (o : Ordered f) (b : Bounded (f .task)) where
     state : ℕ
     low : state < 2 ^ f .task .facts
     number : ℕ
-    known : number < length (f .task .actions)
+    there : number < length (f .task .actions)
     chosen : T (inActions f (second (stateSetAt f p)) number)
     allowed : T (applies (actionAt (f .task) number) state)
     leads : seen h (actionAt (f .task) number) state ≡ u
@@ -157,8 +157,8 @@ module _ (f : File) (o : Ordered f) (b : Bounded (f .task)) where
   in-progression p u k l = (
     (λ t.
         let (s, i, x, c, m) = at-progression f o b p k (u, l) .1 t in
-        record { state = s .0; low = s .1; number = i .0; known = i .1; chosen = c; allowed = m .0; leads = m .1; inside = x }),
-    (λ r. at-progression f o b p k (u, l) .0 ((r .state, r .low), (r .number, r .known), r .inside, r .chosen, (r .allowed, r .leads))),
+        record { state = s .0; low = s .1; number = i .0; there = i .1; chosen = c; allowed = m .0; leads = m .1; inside = x }),
+    (λ r. at-progression f o b p k (u, l) .0 ((r .state, r .low), (r .number, r .there), r .inside, r .chosen, (r .allowed, r .leads))),
   )
 
   in-regression : (p u : ℕ) → T (eqb (kindAt f p) 10) → u < 2 ^ f .task .facts → T (inSet f p u) ↔ Bracket false p u
@@ -170,7 +170,7 @@ module _ (f : File) (o : Ordered f) (b : Bounded (f .task)) where
           state = u;
           low = l;
           number = i .0;
-          known = i .1;
+          there = i .1;
           chosen = c;
           allowed = m .0;
           leads = refl;
@@ -178,10 +178,10 @@ module _ (f : File) (o : Ordered f) (b : Bounded (f .task)) where
         }),
     (λ r.
         let n : after (actionAt (f .task) (r .number)) (r .state) < 2 ^ f .task .facts =
-        b .after (r .number) (r .state) (r .known) (r .low) in
+        b .after (r .number) (r .state) (r .there) (r .low) in
         subst (λ (w : ℕ). T (inSet f p w)) (r .leads)
         (at-regression f o b p k (r .state, r .low) .0
-        ((after (actionAt (f .task) (r .number)) (r .state), n), (r .number, r .known), r .inside, r .chosen, (r .allowed, refl)))),
+        ((after (actionAt (f .task) (r .number)) (r .state), n), (r .number, r .there), r .inside, r .chosen, (r .allowed, refl)))),
   )
 
   entered : (h : Bool) (p u : ℕ) → Bracket h p u ↔ Entered f (ActionsOf f (second (stateSetAt f p))) h (leaves f 7 (child f p)) u
@@ -190,7 +190,7 @@ module _ (f : File) (o : Ordered f) (b : Bounded (f .task)) where
         let c : Action = actionAt (f .task) (r .number) in
         record {
           action = c;
-          chosen = (r .number, r .known, r .chosen, refl);
+          chosen = (r .number, r .there, r .chosen, refl);
           state = r .state;
           low = r .low;
           allowed = r .allowed;
@@ -202,7 +202,7 @@ module _ (f : File) (o : Ordered f) (b : Bounded (f .task)) where
         let w = subst (λ (c : Action). T (applies c (e .state)) × (seen h c (e .state) ≡ u)
         × T (inSet f (child f p) (seen (not h) c (e .state)))) q
         (e .allowed, e .leads, subst T (sym (in-intersections f o (seen (not h) (e .action) (e .state)) (child f p))) (e .inside)) in
-        record { state = e .state; low = e .low; number = i; known = l; chosen = m; allowed = w .0; leads = w .1; inside = w .2 }),
+        record { state = e .state; low = e .low; number = i; there = l; chosen = m; allowed = w .0; leads = w .1; inside = w .2 }),
   )
 
   stays : (h : Bool) (e : ℕ) (c : Action) (s : ℕ) → ActionsOf f e c → s < 2 ^ f .task .facts → seen h c s < 2 ^ f .task .facts

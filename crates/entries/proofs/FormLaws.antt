@@ -26,7 +26,7 @@ next i h n = omega arith
 
 module _ (bytes : List ℕ) (n : ℕ) where
   pub record Same {A : Type 0} (k : Kind A) (f : Form) : Type 0 where
-    pub known : formKnown f ≡ true
+    pub form : formKnown f ≡ true
     pub fits : (len : ℕ) → k .fits len ≡ formFits f len
     pub body : (p len : ℕ) → forget (k .body p len) ≡ forget (formBody bytes n f p len)
 
@@ -40,7 +40,7 @@ module _ (bytes : List ℕ) (n : ℕ) where
     pub no-kind : (ks : List (Kind A)) (fs : List Form) → Alike ks fs → (j : ℕ) → formKnown (formAt fs j) ≡ false → getElem? ks j ≡ none
     no-kind [] [] end j e = refl
     no-kind (k ∷ ks) (f ∷ fs) (s & a) zero e =
-        let z : true ≡ false = sym (s .known) ∙ e in let y : _≡_ {A = ℕ} 0 1 = cc in absurd (omega arith)
+        let z : true ≡ false = sym (s .form) ∙ e in let y : _≡_ {A = ℕ} 0 1 = cc in absurd (omega arith)
     no-kind (k ∷ ks) (f ∷ fs) (s & a) (suc j) e = no-kind ks fs a j e
 
     -- the kind with the number of a form
@@ -54,7 +54,7 @@ module _ (bytes : List ℕ) (n : ℕ) where
 
   same-plain : {A : Type 0} (a : A) → Same (plain a) Bare
   unfolding plain
-  same-plain a = record { known = refl; fits = λ len. refl; body = λ p len. refl }
+  same-plain a = record { form = refl; fits = λ len. refl; body = λ p len. refl }
 
   -- whatever becomes of what was read
   kept : {A B C : Type 0} (r : Result A) (f : A → B) (g : A → C) → forget (r >>= λ x. found (f x)) ≡ forget (r >>= λ x. found (g x))
@@ -64,7 +64,7 @@ module _ (bytes : List ℕ) (n : ℕ) where
 
   same-one : {A : Type 0} (make : ℕ → A) (a : ℕ) → Same (one bytes make a) (One a)
   unfolding one
-  same-one make a = record { known = refl; fits = λ len. refl; body = λ p len. kept (reference bytes a p) _ _ }
+  same-one make a = record { form = refl; fits = λ len. refl; body = λ p len. kept (reference bytes a p) _ _ }
 
   two-kept : {A B C D : Type 0} (r : Result A) (s : Result B) (f : A → B → C) (g : A → B → D)
       → forget (r >>= λ x. s >>= λ y. found (f x y)) ≡ forget (r >>= λ x. s >>= λ y. found (g x y))
@@ -75,13 +75,13 @@ module _ (bytes : List ℕ) (n : ℕ) where
   same-two : {A : Type 0} (make : ℕ → ℕ → A) (a b : ℕ) → Same (two bytes make a b) (Two a b)
   unfolding two
   same-two make a b =
-      record { known = refl; fits = λ len. refl; body = λ p len. two-kept (reference bytes a p) (reference bytes b (p + 2)) _ _ }
+      record { form = refl; fits = λ len. refl; body = λ p len. two-kept (reference bytes a p) (reference bytes b (p + 2)) _ _ }
 
   pub actions-alike : (m i : ℕ) → Alike (actionKinds bytes m i) (actionForms m i)
   unfolding actionKinds
   actions-alike m i =
       same-plain _
-      & record { known = refl; fits = λ len. refl; body = λ p len. kept (ascending (reference bytes m) 2 0 p (len / 2)) _ _ }
+      & record { form = refl; fits = λ len. refl; body = λ p len. kept (ascending (reference bytes m) 2 0 p (len / 2)) _ _ }
       & same-two _ i i
       & end
 
@@ -91,9 +91,9 @@ module _ (bytes : List ℕ) (n : ℕ) where
       same-plain _
       & same-plain _
       & same-plain _
-      & record { known = refl; fits = λ len. refl; body = λ p len. kept (ascending (mask bytes n) 8 0 p (len / 8)) _ _ }
-      & record { known = refl; fits = λ len. refl; body = λ p len. kept (items (clause bytes n hornRule) 16 p (len / 16)) _ _ }
-      & record { known = refl; fits = λ len. refl; body = λ p len. kept (items (clause bytes n twoCnfRule) 16 p (len / 16)) _ _ }
+      & record { form = refl; fits = λ len. refl; body = λ p len. kept (ascending (mask bytes n) 8 0 p (len / 8)) _ _ }
+      & record { form = refl; fits = λ len. refl; body = λ p len. kept (items (clause bytes n hornRule) 16 p (len / 16)) _ _ }
+      & record { form = refl; fits = λ len. refl; body = λ p len. kept (items (clause bytes n twoCnfRule) 16 p (len / 16)) _ _ }
       & same-one _ i
       & same-two _ i i
       & same-two _ i i

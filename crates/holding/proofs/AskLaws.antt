@@ -24,7 +24,7 @@ use Rattle.meaning.specs.Sets.{rounds, stateNode, inSet}
 use Rattle.meaning.proofs.Nodes.{in-node}
 use Rattle.leaves.specs.Leaves.{basicIn, setOf}
 use Rattle.leaves.specs.Holds.{setHolds, Orderly}
-use Rattle.leaves.proofs.KnownLeaves.{lawful-orderly, known-items, known-holds, known-lawful}
+use Rattle.leaves.proofs.KnownLeaves.{limits-orderly, known-items, known-holds, known-limits}
 use Rattle.meaning.specs.Question.{progressionNode, hasProgression, shallowNode, shallow}
 use Rattle.meaning.proofs.Shallow.{progression-node}
 
@@ -73,7 +73,7 @@ module _ (bytes : List ℕ) (index : List ℕ) (k : Known bytes index) (e : ℕ)
       set-orderly =
           let w = seen (Basic b) z in
           subst (Orderly bytes) as-set
-          (lawful-orderly bytes (f .task .facts) (setOf index f e) (known-lawful bytes index k e (w .0) (w .1)))
+          (limits-orderly bytes (f .task .facts) (setOf index f e) (known-limits bytes index k e (w .0) (w .1)))
 
       pub set-in : (ends : Ends) → ends ≡ endsOf (f .task) → (s : ℕ) → setHolds bytes ends b s ≡ inSet f e s
       set-in ends t s =

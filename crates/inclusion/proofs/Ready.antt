@@ -28,7 +28,7 @@ use Rattle.leaves.specs.Leaves.{kindOf, wordLeaf, leafIn, leavesIn}
 use Rattle.leaves.specs.Holds.{Orderly, Ruled}
 use Rattle.leaves.specs.Lists.{Each}
 use Rattle.leaves.proofs.ListLaws.{each-at}
-use Rattle.leaves.proofs.KnownLeaves.{Lawful, lawful-orderly, known-kind, known-lawful}
+use Rattle.leaves.proofs.KnownLeaves.{WithinLimits, limits-orderly, known-kind, known-limits}
 use Rattle.propagation.specs.Clauses.{ClausalSet, Clausal, UnlistedSet, Unlisted}
 use Rattle.listed.specs.Listed.{ListsStates, Anchored}
 use Rattle.kinds.specs.declared.Gathered.{Gathered}
@@ -55,24 +55,24 @@ module _ (bytes : List ℕ) (index : List ℕ) (k : Known bytes index) where
 
   -- ---- leaves of some kinds
 
-  -- what is so of lawful sets of the entries' kinds is so of their leaves
+  -- what is so of sets within the limits that are of the entries' kinds is so of their leaves
   each-leaf : (P : Leaf → Type 0) (xs : List Asked) → AllBasic f xs
-      → ((x : Leaf) → Lawful bytes (f .task .facts) (x .set) → T (member (kindOf (x .set)) (kindsOf f xs)) → P x)
+      → ((x : Leaf) → WithinLimits bytes (f .task .facts) (x .set) → T (member (kindOf (x .set)) (kindsOf f xs)) → P x)
       → Each P (map (leafOf index f) xs)
   unfolding leafOf kindsOf
   each-leaf P [] b h = tt
   each-leaf P (x ∷ xs) b h =
       let (c, q) = basic-of f (read-ordered bytes (k .read)) (x .entry) (b .0) in (
-        h (leafOf index f x) (known-lawful bytes index k (x .entry) c q)
+        h (leafOf index f x) (known-limits bytes index k (x .entry) c q)
             (member-first _ (kindAt f (x .entry)) (kindsOf f xs) (known-kind bytes index k (x .entry) c q)),
         each-leaf P xs (b .1) (λ y l m. h y l (member-rest _ (kindAt f (x .entry)) (kindsOf f xs) m)),
       )
 
   orderly : (xs : List Asked) → AllBasic f xs → Each (λ y. Orderly bytes (y .set)) (map (leafOf index f) xs)
-  orderly xs b = each-leaf (λ y. Orderly bytes (y .set)) xs b (λ y l _. lawful-orderly bytes (f .task .facts) (y .set) l)
+  orderly xs b = each-leaf (λ y. Orderly bytes (y .set)) xs b (λ y l _. limits-orderly bytes (f .task .facts) (y .set) l)
 
   -- a set whose states are listed, within the file's facts
-  lists : (v : BasicEntry) → Lawful bytes (f .task .facts) v → T (mayAnchor v) → ListsStates bytes ends v
+  lists : (v : BasicEntry) → WithinLimits bytes (f .task .facts) v → T (mayAnchor v) → ListsStates bytes ends v
   unfolding endsOf
   lists Empty l w = tt
   lists Init l w = read-file bytes (k .read) .task .init
@@ -94,7 +94,7 @@ module _ (bytes : List ℕ) (index : List ℕ) (k : Known bytes index) where
 
     -- and all clauses are of one sort
     clausal : (n : ℕ) (two : Bool) → (T (member 4 ks) → two ≡ false) → (T (member 5 ks) → two ≡ true)
-        → (v : BasicEntry) → Lawful bytes n v → T (member (kindOf v) ks) → ClausalSet bytes two v
+        → (v : BasicEntry) → WithinLimits bytes n v → T (member (kindOf v) ks) → ClausalSet bytes two v
     unfolding kindOf
     clausal n two four five Empty l m = tt
     clausal n two four five Init l m = tt

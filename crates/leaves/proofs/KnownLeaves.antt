@@ -87,48 +87,49 @@ all-member P i (y ∷ ys) h x m =
     elim (member-cases x y ys m) [ inl e ↦ subst P (sym e) (h .0) | inr r ↦ all-member P (suc i) ys (h .1) x r ]
 
 -- within the limits of a task: listed states ascend and are states of n facts; clauses keep their kind's rule
-abbrev pub Lawful : List ℕ → ℕ → BasicEntry → Type 0
-Lawful bytes n Empty = Unit {0}
-Lawful bytes n Init = Unit {0}
-Lawful bytes n Goal = Unit {0}
-Lawful bytes n (Explicit x) = InOrder bytes (x .at) (x .count) × ((s : ℕ) → T (member s (statesAt bytes (x .at) (x .count))) → s < 2 ^ n)
-Lawful bytes n (Horn x) = Ruled bytes false x
-Lawful bytes n (TwoCnf x) = Ruled bytes true x
+abbrev pub WithinLimits : List ℕ → ℕ → BasicEntry → Type 0
+WithinLimits bytes n Empty = Unit {0}
+WithinLimits bytes n Init = Unit {0}
+WithinLimits bytes n Goal = Unit {0}
+WithinLimits bytes n (Explicit x) =
+    InOrder bytes (x .at) (x .count) × ((s : ℕ) → T (member s (statesAt bytes (x .at) (x .count))) → s < 2 ^ n)
+WithinLimits bytes n (Horn x) = Ruled bytes false x
+WithinLimits bytes n (TwoCnf x) = Ruled bytes true x
 
-pub lawful-orderly : (bytes : List ℕ) (n : ℕ) (x : BasicEntry) → Lawful bytes n x → Orderly bytes x
-lawful-orderly bytes n Empty h = tt
-lawful-orderly bytes n Init h = tt
-lawful-orderly bytes n Goal h = tt
-lawful-orderly bytes n (Explicit x) h = h .0
-lawful-orderly bytes n (Horn x) h = h .inside
-lawful-orderly bytes n (TwoCnf x) h = h .inside
+pub limits-orderly : (bytes : List ℕ) (n : ℕ) (x : BasicEntry) → WithinLimits bytes n x → Orderly bytes x
+limits-orderly bytes n Empty h = tt
+limits-orderly bytes n Init h = tt
+limits-orderly bytes n Goal h = tt
+limits-orderly bytes n (Explicit x) h = h .0
+limits-orderly bytes n (Horn x) h = h .inside
+limits-orderly bytes n (TwoCnf x) h = h .inside
 
 -- a leaf's set that stands for a basic set of a task
-record Same (bytes : List ℕ) (t : Task) (b : Basic) (x : BasicEntry) : Type 0 where
+record StandsFor (bytes : List ℕ) (t : Task) (b : Basic) (x : BasicEntry) : Type 0 where
   kind : kindOf x ≡ basicKind b
   holds : (s : ℕ) → setHolds bytes (endsOf t) x s ≡ inBasic t b s
-  lawful : Lawful bytes (t .facts) x
+  limits : WithinLimits bytes (t .facts) x
 
 module _ (bytes : List ℕ) (t : Task) (p : ℕ) where
-  same : (b : Basic) → BasicItems bytes p b → FitsBasic (t .facts) b → Same bytes t b (viewOfBasic p b)
+  stands-for : (b : Basic) → BasicItems bytes p b → FitsBasic (t .facts) b → StandsFor bytes t b (viewOfBasic p b)
   unfolding kindOf basicKind setHolds meetsAll viewOfBasic span inBasic clauseRule
-  same empty h z = record { kind = refl; holds = λ s. refl; lawful = tt }
-  same init h z = record { kind = refl; holds = λ s. sym (init-ends t s); lawful = tt }
-  same goal h z = record { kind = refl; holds = λ s. sym (goal-ends t s); lawful = tt }
-  same (explicit ss) h z =
+  stands-for empty h z = record { kind = refl; holds = λ s. refl; limits = tt }
+  stands-for init h z = record { kind = refl; holds = λ s. sym (init-ends t s); limits = tt }
+  stands-for goal h z = record { kind = refl; holds = λ s. sym (goal-ends t s); limits = tt }
+  stands-for (explicit ss) h z =
       let e = states-stand bytes (p + 3) ss h in
       record {
         kind = refl;
         holds = λ s. ap (member s) e;
-        lawful = (
+        limits = (
           record { inside = h .inside; ascend = subst (Ascending 0) (sym e) (z .1) },
           (λ s m. all-member (λ x. x < 2 ^ t .facts) 0 ss (z .2) s (subst (λ (ys : List ℕ). T (member s ys)) e m)),
         );
       }
-  same (horn cs) h z =
-      record { kind = refl; holds = clauses-met bytes (p + 3) cs h; lawful = clauses-ruled bytes (p + 3) cs h (t .facts) false z }
-  same (twoCnf cs) h z =
-      record { kind = refl; holds = clauses-met bytes (p + 3) cs h; lawful = clauses-ruled bytes (p + 3) cs h (t .facts) true z }
+  stands-for (horn cs) h z =
+      record { kind = refl; holds = clauses-met bytes (p + 3) cs h; limits = clauses-ruled bytes (p + 3) cs h (t .facts) false z }
+  stands-for (twoCnf cs) h z =
+      record { kind = refl; holds = clauses-met bytes (p + 3) cs h; limits = clauses-ruled bytes (p + 3) cs h (t .facts) true z }
 
 -- ---- entries of a checked file
 
@@ -149,11 +150,11 @@ module _ (bytes : List ℕ) (index : List ℕ) (k : Known bytes index) where
 
   -- a basic entry's set holds what the entry does, is of its kind and keeps the format's limits
   module _ (e : ℕ) (b : Basic) (q : stateSetAt (decoded bytes) e ≡ basic b) where
-    as-basic : Same bytes (f .task) b (setOf index f e)
+    as-basic : StandsFor bytes (f .task) b (setOf index f e)
     unfolding setOf basicIn viewOf
     as-basic =
-        subst (λ (x : StateSet). Same bytes (f .task) b (basicIn (viewOf (statePlace index e) x))) (sym q)
-        (same bytes (f .task) (statePlace index e) b (subst (StateItems bytes (statePlace index e)) q (known-items e))
+        subst (λ (x : StateSet). StandsFor bytes (f .task) b (basicIn (viewOf (statePlace index e) x))) (sym q)
+        (stands-for bytes (f .task) (statePlace index e) b (subst (StateItems bytes (statePlace index e)) q (known-items e))
         (subst (FitsStateSet (f .task .facts) (length (f .actionSets)) e) q (order.state-set-fits bytes f (read-file bytes (k .read)) e)))
 
     pub known-holds : (s : ℕ) → setHolds bytes (endsOf (decoded bytes .task)) (setOf index (decoded bytes) e) s ≡ inSet (decoded bytes) e s
@@ -163,5 +164,5 @@ module _ (bytes : List ℕ) (index : List ℕ) (k : Known bytes index) where
     unfolding kindAt stateKind
     known-kind = as-basic .kind ∙ sym (ap stateKind q)
 
-    pub known-lawful : Lawful bytes (decoded bytes .task .facts) (setOf index (decoded bytes) e)
-    known-lawful = as-basic .lawful
+    pub known-limits : WithinLimits bytes (decoded bytes .task .facts) (setOf index (decoded bytes) e)
+    known-limits = as-basic .limits

@@ -159,10 +159,10 @@ pub record Assumed (two : Bool) (P : Clause → Type 0) (c : Clause) (x r : Assi
 abbrev pub Fillable : Bool → (Clause → Type 0) → Type 0
 Fillable two P = (r : Assignment) → r .on < 2 ^ 64 → r .conflict ≡ false → Apart r → Settled two P r → (s : ℕ) × Agrees s r × Meets P s
 
--- fact i is known, and P still settled; a conflict where no state that agrees with x meets P
+-- fact i is decided, and P still settled; a conflict where no state that agrees with x meets P
 pub record Fixed (two : Bool) (P : Clause → Type 0) (i : ℕ) (x r : Assignment) : Type 0 where
   pub goes : Going (λ s. ⊥) x r
-  pub known : 1 ≤ bit i (r .on) + bit i (r .off)
+  pub decided : 1 ≤ bit i (r .on) + bit i (r .off)
   pub settled : r .conflict ≡ false → Settled two P x → Settled two P r
   pub none : r .conflict ≡ true → (s : ℕ) → Agrees s x → Meets P s → ⊥
 

@@ -37,10 +37,10 @@ module _ (bytes : List ℕ) (at : Places) (k : Placed bytes at) (e s : ℕ) wher
   unfolding askable
   unknown l = rw (← placed-state-sets bytes at k, le-ltb e (at .«state_sets») l) refl
 
-  pub known : e < at .«state_sets» → s < 2 ^ 64 → (top : ℕ) → top ≡ 2 ^ min (at .ends .facts) 64 - 1 → (c : Bool) → c ≡ shallow f e 4
+  pub in-file : e < at .«state_sets» → s < 2 ^ 64 → (top : ℕ) → top ≡ 2 ^ min (at .ends .facts) 64 - 1 → (c : Bool) → c ≡ shallow f e 4
       → (leb s top && c) ≡ askable f e s
   unfolding askable endsOf
-  known l low top p c q =
+  in-file l low top p c q =
       ap₂ _&&_ (within-all (at .ends .facts) p s low ∙ ap (λ (x : Ends). ltb s (2 ^ x .facts)) (placed-ends bytes at k))
       (q ∙ sym (shortcut bytes f (k .read) e))
       ∙ all-four (ltb e (length (f .stateSets))) (ltb s (2 ^ f .task .facts)) (not (hasProgression f e)) (leb (depth f e) 4)

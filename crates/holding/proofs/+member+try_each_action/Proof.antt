@@ -99,21 +99,21 @@ module _ (t : ℕ) where
   e c = c .before .before .args .e
 
   -- what is known of the file
-  known : (c : Place) → Known (c .before .before .args .file .now) (c .before .before .args .index .now)
-  known c = c .before .before .pre .1 .0 .0
+  ready : (c : Place) → Known (c .before .before .args .file .now) (c .before .before .args .index .now)
+  ready c = c .before .before .pre .1 .0 .0
 
   view : (c : Place) (w : StateEntry) → c .state-set .result ≡ w
       → StateSeen (c .before .before .args .file .now) w (stateSetAt (f c) (e c))
-  view c w z = seen _ _ (known c) (e c) _ (c .state-set .ensures) w z
+  view c w z = seen _ _ (ready c) (e c) _ (c .state-set .ensures) w z
 
   module _ (c : Place) (x : StateSet) (z : stateSetAt (f c) (e c) ≡ x) where
     -- no progression is beneath the entry, and what it names comes earlier
     names : Clear (f c) x × FitsStateSet (f c .task .facts) (length (f c .actionSets)) (e c) x
-    names = (clear-at _ _ (known c) (e c) x z (c .before .before .pre .1 .1), fits-at _ _ (known c) (e c) x z)
+    names = (clear-at _ _ (ready c) (e c) x z (c .before .before .pre .1 .1), fits-at _ _ (ready c) (e c) x z)
 
     -- what it holds
     holds : stateNode (f c) (inSet (f c)) x (c .before .before .args .s) ≡ inSet (f c) (e c) (c .before .before .args .s)
-    holds = sym (in-at _ _ (known c) (e c) x z (c .before .before .args .s))
+    holds = sym (in-at _ _ (ready c) (e c) x z (c .before .before .args .s))
 
   -- an earlier entry with no progression may be asked
   lower : (c : Place) (a : ℕ) → hasProgression (f c) a ≡ false → a < e c → let x = c .before .before .args in
@@ -123,7 +123,7 @@ module _ (t : ℕ) where
   basic-requires : member-lts.Need-set-holds-requires member-calls member-at member.Post
   basic-requires c κs =
       let v = c .before .before .before in
-      set-orderly _ _ (known v) (e v) _ (v .state-set .ensures) _ (c .before .b .given .1)
+      set-orderly _ _ (ready v) (e v) _ (v .state-set .ensures) _ (c .before .b .given .1)
 
   complement-requires : member-lts.Need-member-requires member-calls member-at member.Post
   complement-requires c κs =
@@ -168,7 +168,7 @@ module _ (t : ℕ) where
       let v = c .before .before .before .before in
       let s = v .before .before in
       c .set-holds .ensures
-      ∙ set-in _ _ (known v) (e v) _ (v .state-set .ensures) _ (c .before .before .b .given .1) _ (s .pre .1 .0 .1) (s .args .s)
+      ∙ set-in _ _ (ready v) (e v) _ (v .state-set .ensures) _ (c .before .before .b .given .1) _ (s .pre .1 .0 .1) (s .args .s)
 
   complement-returns : member-lts.Need-returns-2 member-calls member-at member.Post
   unfolding stateNode

@@ -1,7 +1,7 @@
 -- `question::is_askable`: the four conditions, two of them by one walk.
 -- Assumes nothing.
 use borrow.Author.Needs.{needs}
-use Rattle.question.proofs.AskableLaws.{unknown, known}
+use Rattle.question.proofs.AskableLaws.{unknown, in-file}
 use Rattle.question.proofs.is_askable.Statement.{statement}
 use Rattle.question.proofs.is_askable.Tie as tie
 
@@ -11,7 +11,7 @@ returns c = let s = c .before .before .before in unknown _ _ (s .pre .0) (s .arg
 returns-2 : tie.Need-returns-2
 returns-2 c =
     let s = c .before .before .before .before .before .before in
-    known _ _ (s .pre .0) (s .args .entry) (s .args .state) (search needs) (search needs) _ (c .before .all-facts .ensures) _
+    in-file _ _ (s .pre .0) (s .args .entry) (s .args .state) (search needs) (search needs) _ (c .before .all-facts .ensures) _
     (c .is-shallow .ensures)
 
 pub is-askable-spec : {M : Type 1} → statement M

@@ -1,7 +1,7 @@
 -- `layout::rows::walk` meets its contract: a walk of its code, by hand. One reader is made at the first item's place, and each turn of the
 -- loop walks it on past an item.
 -- The loop's invariant, `Going`: what was seen last and the reader's place lead to where the walk stops.
---     State    a turn's item and place, for which the invariant holds.         Held     what is had at each turn
+--     State    a turn's item and place, for which the invariant holds.         Owns     what is had at each turn
 --     more     a turn that looks at an item and walks on.        ends      the turn that leaves the loop, and the rest of the body
 -- Assumes nothing.
 use mathlib.Core.Path.{_≡_, refl, subst}
@@ -191,8 +191,8 @@ module _ {M : Type 1} (𝓤 : URA M) (H : Heap 𝓤) (A : Atoms 𝓤) (W : Given
           ∷ ‵ (froom S′.mir l₀ 0) ∷ ‵ (fdies S′.mir l₀) ∷ []
 
       -- at each turn: what was seen last, and the reader
-      abbrev Held : State → List (Entry 𝓤)
-      Held t =
+      abbrev Owns : State → List (Entry 𝓤)
+      Owns t =
           Cells (‵ (fat fullShare X′.mir l₆ 0 (X′.lowered (t .item)))) (‵ (fat fullShare (T′.mir erased) l₅ 0 (at s (t .spot))))
 
       -- when the loop is left, the rest of the body runs
@@ -201,7 +201,7 @@ module _ {M : Type 1} (𝓤 : URA M) (H : Heap 𝓤) (A : Atoms 𝓤) (W : Given
 
       -- what a turn is to show: it leaves the loop, or ends in a later state
       abbrev Turn : State → Goal 𝓤 H
-      Turn t = runs C Λ En pieces.turn-1 (anyQ (afterTurn 𝓤 H (Below 𝓤 H A _≺_ Held t) Left))
+      Turn t = runs C Λ En pieces.turn-1 (anyQ (afterTurn 𝓤 H (Below 𝓤 H A _≺_ Owns t) Left))
 
       -- the machine values have their locals' types
       typed-item : (x : Item) → IsItem x → Holds (hasTy X′.mir (X′.lowered x)) × WT (X′.lowered x)
@@ -220,7 +220,7 @@ module _ {M : Type 1} (𝓤 : URA M) (H : Heap 𝓤) (A : Atoms 𝓤) (W : Given
       far n g = omega (arith, g)
 
       -- the turn that leaves the loop, and the rest of the body
-      ends : (t : State) → t .item .left ≤ 0 → Seq Go W (Held t) (Turn t)
+      ends : (t : State) → t .item .left ≤ 0 → Seq Go W (Owns t) (Turn t)
       unfolding afterTurn
       ends t none =
           let x = t .item in
@@ -248,7 +248,7 @@ module _ {M : Type 1} (𝓤 : URA M) (H : Heap 𝓤) (A : Atoms 𝓤) (W : Given
           by ! (exits x n (t .is) g (going-last (now s) row count place x n (t .going) none))
 
       -- a turn that looks at an item and walks on
-      more : (t : State) → 0 < t .item .left → Seq Go W (Held t) (Turn t)
+      more : (t : State) → 0 < t .item .left → Seq Go W (Owns t) (Turn t)
       unfolding afterTurn
       more t some =
           let x = t .item in
@@ -280,13 +280,13 @@ module _ {M : Type 1} (𝓤 : URA M) (H : Heap 𝓤) (A : Atoms 𝓤) (W : Given
           (load ! (from ! (fld ! refl (stop !))) (look-in ! 18 (sub ! 1 refl (whole !)))) (no-more !))) $
           land-last ! (from ! (stop !)) (store ! 20 refl (typed 𝓤 H A W κ q s p (n + y .size) (far (n + y .size) g′))) $
           forget ! 6 refl $ forget ! 8 refl $ forget ! 10 refl $ forget ! 12 refl $
-          again ! _≺_ Held t (record { item = y; spot = n + y .size; going = on .0; is = is }) (on .1))
+          again ! _≺_ Owns t (record { item = y; spot = n + y .size; going = on .0; is = is }) (on .1))
 
-      turn : (t : State) → Seq Go W (Held t) (Turn t)
+      turn : (t : State) → Seq Go W (Owns t) (Turn t)
       turn t = elim (decLt 0 (t .item .left)) [ yes h ↦ more t h | no h ↦ ends t (omega arith) ]
 
-      rounds : (t : State) → ent 𝓤 (⋆ 𝓤 H A (Held t)) (Wp 𝓤 H C Λ En (loop pieces.turn-1) Left)
-      rounds t = loops {K = Go} {W = W} ! 𝓣 _≺_ ordered Held {E = En} {b = pieces.turn-1} {q = anyQ Left} turn t .prf
+      rounds : (t : State) → ent 𝓤 (⋆ 𝓤 H A (Owns t)) (Wp 𝓤 H C Λ En (loop pieces.turn-1) Left)
+      rounds t = loops {K = Go} {W = W} ! 𝓣 _≺_ ordered Owns {E = En} {b = pieces.turn-1} {q = anyQ Left} turn t .prf
 
       -- the body, up to the loop
       abbrev Begun : List (Entry 𝓤)
