@@ -7,7 +7,6 @@ use mathlib.Core.Bool.{Bool, true, false, _||_}
 use mathlib.Core.List.{List, [], _∷_, map}
 use lib.ListN.{length, take, length-take, length-map}
 use lib.Dec.{T}
-use Rattle.task.specs.declared.Action.{Action}
 use Rattle.task.specs.declared.Ends.{Ends}
 use Rattle.task.specs.Task.{actionAt}
 use Rattle.task.specs.Inner.{noAction, endsOf}

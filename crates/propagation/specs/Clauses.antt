@@ -14,7 +14,6 @@ use Rattle.task.specs.Facts.{without}
 use Rattle.task.specs.Inner.{has, noAction}
 use Rattle.meaning.specs.declared.Clause.{Clause}
 use Rattle.words.specs.Words.{wordsAt}
-use Rattle.certificate.specs.declared.Span.{Span}
 use Rattle.certificate.specs.declared.BasicEntry.{BasicEntry}
 use Rattle.certificate.specs.declared.BasicEntry.the-variants.{Empty, Init, Goal, Explicit, Horn, TwoCnf}
 use Rattle.leaves.specs.declared.Leaf.{Leaf}

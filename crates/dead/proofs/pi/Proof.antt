@@ -1,6 +1,7 @@
 -- `dead::pi` meets its contract: PI's tests in turn, and nothing matches a judgement or an entry of another kind.
 -- Assumes nothing.
-use mathlib.Core.Path.{_∙_, ap}
+use mathlib.Core.Path.{_≡_, _∙_, ap}
+use lib.Dec.{eqb}
 use borrow.Author.Needs.{needs}
 use Rattle.patterns.specs.Matched.{matched}
 use Rattle.rules.proofs.RuleLaws.{listed, opened, other-said}
@@ -23,10 +24,12 @@ returns-3 c =
     let first = second .before .before .before in
     let all = first .before .before in
     let s = all .before .before in
-    rw (s .before .before .before .before .o .given .1)
+    let o = s .before .before .before .before .o in
+    let same : second .before .matched .result ≡ matched (eqb (o .given .0 .1 .0) (s .s .given .0 .0)) = second .before .matched .ensures in
+    rw (o .given .1)
     (both-matched _ _ (c .both3 .ensures)
     (both-matched _ _ (first .both .ensures) (all .is-progression-of-all .ensures) (first .before .is-union .ensures))
-    (both-matched _ _ (second .both2 .ensures) (second .before .before .is-init .ensures) (second .before .matched .ensures))
+    (both-matched _ _ (second .both2 .ensures) (second .before .before .is-init .ensures) same)
     ∙ ap matched (pi _ _ _ _ _ _ _ _ (taken _ _ (s .before .before .state-set .ensures) (s .s .given .1))))
 
 pub pi-spec : {M : Type 1} → statement M
