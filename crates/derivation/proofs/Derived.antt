@@ -18,13 +18,12 @@ use Rattle.derivation.specs.StepReply.{ruleReply}
 use Rattle.formed.proofs.StepLaws.{derivation-premises}
 
 -- from the answer of the rule's own function, which was given as many premises as the rule has
-pub derived-by : (f : File) (s : code.Step) {n : ℕ} {p q o : Judgement} {r : StepReply} → (6 ≤ s .rule) × (s .rule ≤ 28)
-    → n ≡ premisesOf (s .rule)
+pub derived-by : (f : File) (rule : ℕ) (s : code.Step) {n : ℕ} {p q o : Judgement} {r : StepReply} → (6 ≤ rule) × (rule ≤ 28)
+    → n ≡ premisesOf rule
     → (ltb 0 n ≡ true → p ≡ judgementAt f (s .premises .first))
     → (ltb 1 n ≡ true → q ≡ judgementAt f (s .premises .second))
     → (ltb 2 n ≡ true → o ≡ judgementAt f (s .premises .third))
-    → r ≡ byRule f (s .rule) (s .judgement) (p ∷ q ∷ o ∷ [])
-    → r ≡ ruleReply f s
-derived-by f s b m hp hq ho h =
-    h
-    ∙ ap matched (read-premises f (ruleNumbered (s .rule)) (s .judgement) (m ∙ derivation-premises f (s .rule) (b .0) (b .1)) hp hq ho)
+    → r ≡ byRule f rule (s .judgement) (p ∷ q ∷ o ∷ [])
+    → r ≡ ruleReply f rule s
+derived-by f rule s b m hp hq ho h =
+    h ∙ ap matched (read-premises f (ruleNumbered rule) (s .judgement) (m ∙ derivation-premises f rule (b .0) (b .1)) hp hq ho)

@@ -17,6 +17,7 @@ use Rattle.meaning.specs.Result.{_>>=_, need}
 use Rattle.meaning.specs.File.{Step, File, stepAt}
 use Rattle.meaning.specs.Statements.{Statement, statements}
 use Rattle.meaning.specs.Step.{statement, allRules, ruleAt, checkBy, checkStep}
+use Rattle.meaning.specs.Numbering.{withRule}
 use Rattle.certificate.specs.declared.Places.{Places}
 use Rattle.certificate.specs.declared.Step as code
 use Rattle.certificate.specs.declared.Judgement.{Judgement}
@@ -37,7 +38,7 @@ use Rattle.rules.proofs.RuleLaws.{other-kind}
 use Rattle.formed.specs.Formed.{formed, entriesIn, IsStep}
 use Rattle.derivation.specs.StepReply.{stepReply, verdictReply, ruleReply}
 use Rattle.formed.proofs.StepLaws.{step-unformed, step-formed, step-derived, rule-in-table, rule-some, kind-concluded}
-use Rattle.formed.proofs.FormedLaws.{listing, three-premises, same-rule, formed-says, unused}
+use Rattle.formed.proofs.FormedLaws.{listing, three-premises, formed-says, unused}
 
 need-reply : (b : Bool) (i : ℕ) → matched b ≡ stepReply (need b 9 i)
 unfolding matched need stepReply
@@ -89,7 +90,7 @@ module _ (f : File) (i : ℕ) (s : Step) where
 
   -- a derivation, by what the step and its premises say
   pub derived-reply : T (formed f i s) → 5 < s .rule → s .premises ≡ listing (s .premises)
-      → ruleReply f (stepOf s) ≡ stepReply (checkStep f i s)
+      → ruleReply f (s .rule) (stepOf s) ≡ stepReply (checkStep f i s)
   unfolding stepOf
   derived-reply t l e =
       ap (λ (ps : List ℕ). byRule f (s .rule) (judgementOf (s .kind) (s .left) (s .right)) (map (judgementAt f) ps)) (sym e)
@@ -137,44 +138,37 @@ two-entries (suc zero) a b e h = (refl, refl)
 two-entries (suc (suc zero)) a b e h = (refl, refl)
 two-entries (suc (suc (suc k))) a b e (l, h) = absurd (omega arith)
 
--- ---- from what the code found of step k, which is well formed
+-- ---- from what the code found of step k by the rule that is handed in: it is well formed
 
-module _ (bytes : List ℕ) (at : Places) (k : ℕ) (s : code.Step) (h : IsStep bytes at k s)
-    {w : Bool} (fits : w ≡ true) (told : w ≡ formed (decoded bytes) k (stepAt (decoded bytes) k)) where
-  passed : formed (decoded bytes) k (stepAt (decoded bytes) k) ≡ true
+module _ (bytes : List ℕ) (at : Places) (k rule : ℕ) (s : code.Step) (h : IsStep bytes at k s)
+    {w : Bool} (fits : w ≡ true) (told : w ≡ formed (decoded bytes) k (withRule rule (stepAt (decoded bytes) k))) where
+  abbrev f : File
+  f = decoded bytes
+
+  abbrev x : Step
+  x = withRule rule (stepAt f k)
+
+  passed : formed f k x ≡ true
   passed = sym told ∙ fits
 
   -- the rule is one of 1 to 28
-  pub rule-bounds : (1 ≤ s .rule) × (s .rule ≤ 28)
-  rule-bounds =
-      let x = stepAt (decoded bytes) k in
-      let r : s .rule ≡ x .rule = same-rule (decoded bytes) k x (h .value) in
-      let lo = rule-some (decoded bytes) k x (holds passed) in
-      let hi = rule-in-table (decoded bytes) k x (holds passed) in
-      (omega arith, omega arith)
+  pub rule-bounds : (1 ≤ rule) × (rule ≤ 28)
+  rule-bounds = (rule-some f k x (holds passed), rule-in-table f k x (holds passed))
 
   -- what `basic` asks for
-  pub says : (kindSaid (s .judgement) ≡ judgementKindOf (s .rule)) × T (entriesIn (decoded bytes) (s .judgement))
-  says = formed-says (decoded bytes) k (stepAt (decoded bytes) k) (h .value) (holds passed) (rule-bounds .0) (rule-bounds .1)
+  pub says : (kindSaid (s .judgement) ≡ judgementKindOf rule) × T (entriesIn f (s .judgement))
+  says = formed-says f k rule (stepAt f k) (h .value) (holds passed) (rule-bounds .0) (rule-bounds .1)
 
-  pub basic-told : {r : StepReply} → s .rule ≤ 5
-      → r ≡ verdictReply (verdictOf (decoded bytes) (s .rule) (leftSaid (s .judgement)) (rightSaid (s .judgement)))
-      → r ≡ stepReply (checkStep (decoded bytes) k (stepAt (decoded bytes) k))
+  pub basic-told : {r : StepReply} → rule ≤ 5
+      → r ≡ verdictReply (verdictOf f rule (leftSaid (s .judgement)) (rightSaid (s .judgement)))
+      → r ≡ stepReply (checkStep f k x)
   unfolding stepOf
   basic-told five q =
-      let f = decoded bytes in
-      let x = stepAt f k in
-      let r : s .rule ≡ x .rule = same-rule f k x (h .value) in
       let lo = rule-bounds .0 in
       let e : s .judgement ≡ judgementOf (x .kind) (x .left) (x .right) = ap (λ (y : code.Step). y .judgement) (h .value) in
-      let two = two-entries (x .kind) (x .left) (x .right) (rw e at (says .0)) (basic-kind (s .rule) (lo, five)) in
-      q ∙ rw (e, two .0, two .1, r) (basic-reply f k x (omega arith) (omega arith) passed)
+      let two = two-entries (x .kind) (x .left) (x .right) (rw e at (says .0)) (basic-kind rule (lo, five)) in
+      q ∙ rw (e, two .0, two .1) (basic-reply f k x lo five passed)
 
-  pub derived-told : {r : StepReply} → 5 < s .rule → r ≡ ruleReply (decoded bytes) s
-      → r ≡ stepReply (checkStep (decoded bytes) k (stepAt (decoded bytes) k))
+  pub derived-told : {r : StepReply} → 5 < rule → r ≡ ruleReply f rule s → r ≡ stepReply (checkStep f k x)
   unfolding stepOf
-  derived-told more q =
-      let f = decoded bytes in
-      let x = stepAt f k in
-      let r : s .rule ≡ x .rule = same-rule f k x (h .value) in
-      q ∙ rw (h .value) (derived-reply f k x (holds passed) (omega arith) (three-premises bytes at k s h))
+  derived-told more q = q ∙ rw (h .value) (derived-reply f k x (holds passed) more (three-premises bytes at k s h))

@@ -1,5 +1,6 @@
 -- The code's reply to one step.
 -- Assumes nothing.
+use Prim.Native.Nat.{ℕ}
 use mathlib.Core.List.{map}
 use Rattle.meaning.specs.Result.{Result, refuse, found}
 use Rattle.meaning.specs.File.{File}
@@ -17,8 +18,8 @@ stepReply (refuse r p) = Refused r
 stepReply (found u) = Passed
 
 -- the reply to a step by a rule of 6 to 28, from what it and its premises say
-abbrev pub ruleReply : File → code.Step → StepReply
-ruleReply f s = byRule f (s .rule) (s .judgement) (map (judgementAt f) (premiseList (s .premises)))
+abbrev pub ruleReply : File → ℕ → code.Step → StepReply
+ruleReply f rule s = byRule f rule (s .judgement) (map (judgementAt f) (premiseList (s .premises)))
 
 -- document 01 has 10 for a shape that is not permitted and 11 for what is untrue
 unfoldable pub verdictReply : Verdict → StepReply

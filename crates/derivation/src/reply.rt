@@ -16,6 +16,7 @@ ghost use lib.Dec.{T};
 ghost use Rattle.task.specs.Inner.{endsOf};
 ghost use Rattle.meaning.specs.File.{stepAt};
 ghost use Rattle.meaning.specs.Step.{checkStep};
+ghost use Rattle.meaning.specs.Numbering.{withRule};
 ghost use Rattle.certificate.specs.Known.{Known, decoded};
 ghost use Rattle.inclusion.specs.Verdict.{verdictOf};
 ghost use Rattle.numbers.specs.Numbers.{judgementKindOf};
@@ -54,20 +55,20 @@ fn basic(file: &[u8], index: &Index, ends: Ends, rule: u8, j: Judgement) -> Step
     of_verdict(decide(file, index, ends, rule, e, d))
 }
 
-// The reply to step k: first whether it is well formed, then a basic statement by its verdict and a derivation by its rule.
-pub fn check_step(file: &[u8], at: Places, index: &Index, k: u16, s: Step) -> StepReply
+// The reply to step k by the rule that its number stands for: first whether it is well formed, then a basic statement by its verdict
+// and a derivation by its rule.
+pub fn check_step(file: &[u8], at: Places, index: &Index, k: u16, rule: u8, s: Step) -> StepReply
     requires { ⌜ Known (now file) (now index) ⌝ }
     requires { ⌜ IsStep (now file) at k s ⌝ }
-    ensures { λ r. ⌜ r ≡ stepReply (checkStep (decoded (now (file .entry))) k (stepAt (decoded (now (file .entry))) k)) ⌝ }
+    ensures { λ r. ⌜ r ≡ stepReply (checkStep (decoded (now (file .entry))) k (withRule rule (stepAt (decoded (now (file .entry))) k))) ⌝ }
 {
-    if well_formed(at, k, s) {
-        let rule = s.rule;
+    if well_formed(at, k, rule, s) {
         if rule <= RuleNumber::B5 {
             let ends = at.ends;
             let j = s.judgement;
             return basic(file, index, ends, rule, j);
         }
-        return derived(file, at, index, s);
+        return derived(file, at, index, rule, s);
     }
     StepReply::Refused(8)
 }

@@ -25,13 +25,12 @@ fn premise(file: &[u8], at: Places, used: bool, k: u16) -> Judgement
 }
 
 // The reply to a step by a rule of 6 to 28: whether what it says follows by the rule from what its premises say.
-pub(crate) fn derived(file: &[u8], at: Places, index: &Index, s: Step) -> StepReply
+pub(crate) fn derived(file: &[u8], at: Places, index: &Index, rule: u8, s: Step) -> StepReply
     requires { ⌜ Placed (now file) at ⌝ }
     requires { ⌜ Known (now file) (now index) ⌝ }
-    requires { ⌜ (6 ≤ s .rule) × (s .rule ≤ 28) ⌝ }
-    ensures { λ r. ⌜ r ≡ ruleReply (decoded (now (file .entry))) s ⌝ }
+    requires { ⌜ (6 ≤ rule) × (rule ≤ 28) ⌝ }
+    ensures { λ r. ⌜ r ≡ ruleReply (decoded (now (file .entry))) rule s ⌝ }
 {
-    let rule = s.rule;
     let j = s.judgement;
     let premises = s.premises;
     let count = RuleNumber::premises(rule);

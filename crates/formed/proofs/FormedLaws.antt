@@ -1,6 +1,6 @@
 -- The tests of reply 8 as the code makes them, of a step's value.
 -- Assumes nothing.
-use mathlib.Core.Path.{_≡_, refl, sym, ap, subst}
+use mathlib.Core.Path.{_≡_, refl, sym, subst}
 use Prim.Native.Nat.{ℕ, zero, suc, _-_, _≤_, _<_}
 use native.Mathlib.Omega.{arith}
 use mathlib.Core.Bool.{Bool, true, false, _&&_}
@@ -20,12 +20,14 @@ use Rattle.certificate.specs.Known.{decoded}
 use Rattle.meaning.proofs.Order.{all-at}
 use Rattle.certificate.proofs.KnownLaws.{read-file, placed-steps}
 use Rattle.meaning.specs.Step.{entriesFit, wellFormed}
+use Rattle.meaning.specs.Numbering.{withRule}
 use Rattle.numbers.specs.Numbers.{premisesOf, judgementKindOf}
 use Rattle.numbers.proofs.TwoBits.{kind-bound}
 use Rattle.rules.specs.Derives.{kindSaid}
 use Rattle.formed.specs.Formed.{placeFits, entriesIn, formedUnder, formed, IsStep}
 use Rattle.rules.proofs.RuleLaws.{and-assoc, and-true, and-false, and-comm}
-use Rattle.formed.proofs.StepLaws.{rule-known, rule-none, rule-past}
+use Rattle.meaning.proofs.Numbering.{rule-none, rule-past}
+use Rattle.formed.proofs.StepLaws.{rule-known}
 
 -- the three premises of a step
 abbrev pub listing : List ℕ → List ℕ
@@ -95,38 +97,29 @@ said-fit f (suc (suc (suc zero))) a b j l =
     asked 3 j (cleanOf 3 a b) true (entriesFit f j a b) (λ e. rw (← e) (and-true (eqb a 0 && eqb b 0)))
 said-fit f (suc (suc (suc (suc k)))) a b j l = rw (ne-eqb (suc (suc (suc (suc k)))) j (λ e. omega arith)) refl
 
-module _ (f : File) (i : ℕ) (x : Step) {s : code.Step} (e : s ≡ stepOf x) where
-  pub same-rule : s .rule ≡ x .rule
-  unfolding stepOf
-  same-rule = ap (λ (y : code.Step). y .rule) e
-
+-- step i by the rule that is handed in
+module _ (f : File) (i rule : ℕ) (x : Step) where
   -- no rule's number
-  pub formed-none : s .rule < 1 → false ≡ formed f i x
+  pub formed-none : rule < 1 → false ≡ formed f i (withRule rule x)
   unfolding formed formedUnder
-  formed-none l = let z : x .rule ≡ 0 = let q = same-rule in omega arith in rw (z, rule-none f)
+  formed-none l = let z : rule ≡ 0 = omega arith in rw (z, rule-none f)
 
-  pub formed-past : 28 < s .rule → false ≡ formed f i x
+  pub formed-past : 28 < rule → false ≡ formed f i (withRule rule x)
   unfolding formed formedUnder
-  formed-past l =
-      let q = same-rule in
-      let z : x .rule ≡ suc (x .rule - 1) = omega arith in
-      rw (z, rule-past f (x .rule - 1) (omega arith))
+  formed-past l = let z : rule ≡ suc (rule - 1) = omega arith in rw (z, rule-past f (rule - 1) (omega arith))
 
   -- a known rule's number
-  formed-by-table : 1 ≤ s .rule → s .rule ≤ 28 → formed f i x ≡ wellFormed f i x (judgementKindOf (x .rule)) (premisesOf (x .rule))
-  unfolding formed formedUnder
-  formed-by-table lo hi =
-      let q = same-rule in
-      let n = rule-known f (x .rule) (omega arith) (omega arith) in
-      rw (n .numbered, n .judgement, n .premises)
+  formed-by-table : 1 ≤ rule → rule ≤ 28 → formed f i (withRule rule x) ≡ wellFormed f i x (judgementKindOf rule) (premisesOf rule)
+  unfolding formed formedUnder wellFormed
+  formed-by-table lo hi = let n = rule-known f rule lo hi in rw (n .numbered, n .judgement, n .premises)
 
   -- the tests, by the table of rules
-  pub formed-tests : {m j c : ℕ} {w p : Bool} → 1 ≤ s .rule → s .rule ≤ 28 → m ≡ kindSaid (s .judgement) → j ≡ judgementKindOf (s .rule)
-      → c ≡ premisesOf (s .rule) → w ≡ entriesIn f (s .judgement)
+  pub formed-tests : {s : code.Step} {m j c : ℕ} {w p : Bool} → s ≡ stepOf x → 1 ≤ rule → rule ≤ 28
+      → m ≡ kindSaid (s .judgement) → j ≡ judgementKindOf rule → c ≡ premisesOf rule → w ≡ entriesIn f (s .judgement)
       → p ≡ (every (λ q. ltb q i) (take c (premiseList (s .premises))) && every (λ q. eqb q 0) (drop c (premiseList (s .premises))))
-      → x .premises ≡ listing (x .premises) → (((s .clean && eqb m j) && w) && p) ≡ formed f i x
+      → x .premises ≡ listing (x .premises) → (((s .clean && eqb m j) && w) && p) ≡ formed f i (withRule rule x)
   unfolding wellFormed stepOf
-  formed-tests lo hi hm hj hc hw hp l =
+  formed-tests e lo hi hm hj hc hw hp l =
       rw (
         hw,
         hp,
@@ -136,26 +129,26 @@ module _ (f : File) (i : ℕ) (x : Step) {s : code.Step} (e : s ≡ stepOf x) wh
         formed-by-table lo hi,
         e,
         ← l,
-        said-fit f (x .kind) (x .left) (x .right) (judgementKindOf (x .rule)) (kind-bound (x .rule)),
+        said-fit f (x .kind) (x .left) (x .right) (judgementKindOf rule) (kind-bound rule),
       )
       (simp and-assoc)
 
   -- a step that passed 8 says what its rule gives, of entries in the file
-  pub formed-says : T (formed f i x) → 1 ≤ s .rule → s .rule ≤ 28
-      → (kindSaid (s .judgement) ≡ judgementKindOf (s .rule)) × T (entriesIn f (s .judgement))
+  pub formed-says : {s : code.Step} → s ≡ stepOf x → T (formed f i (withRule rule x)) → 1 ≤ rule → rule ≤ 28
+      → (kindSaid (s .judgement) ≡ judgementKindOf rule) × T (entriesIn f (s .judgement))
   unfolding wellFormed stepOf
-  formed-says t lo hi =
-      let j = judgementKindOf (x .rule) in
+  formed-says e t lo hi =
+      let j = judgementKindOf rule in
       let fit = eqb (x .kind) j && entriesFit f j (x .left) (x .right) in
-      let earlier = every (λ p. ltb p i) (take (premisesOf (x .rule)) (x .premises)) in
-      let zeros = every (λ p. eqb p 0) (drop (premisesOf (x .rule)) (x .premises)) in
+      let earlier = every (λ p. ltb p i) (take (premisesOf rule) (x .premises)) in
+      let zeros = every (λ p. eqb p 0) (drop (premisesOf rule) (x .premises)) in
       let clean = cleanOf (x .kind) (x .left) (x .right) in
       let said = judgementOf (x .kind) (x .left) (x .right) in
       let kind = eqb (kindSaid said) j in
       let w : T (fit && earlier && zeros) = subst T (formed-by-table lo hi) t in
       let u : T fit = and-left fit earlier (and-left (fit && earlier) zeros w) in
       let v : T (clean && kind && entriesIn f said) =
-      subst T (sym (said-fit f (x .kind) (x .left) (x .right) j (kind-bound (x .rule)))) u in
+      subst T (sym (said-fit f (x .kind) (x .left) (x .right) j (kind-bound rule))) u in
       rw e (
         eqb→eq (kindSaid said) j (and-right clean kind (and-left (clean && kind) (entriesIn f said) v)),
         and-right (clean && kind) (entriesIn f said) v,

@@ -19,6 +19,7 @@ use Rattle.meaning.specs.Rules.{Rule, _⊢_, rules, patternKind, dead, O}
 use Rattle.meaning.specs.Match.{Letters, _then_, noLetters, matchStep, matchPremises}
 use Rattle.meaning.specs.Step.{Check, derivation, judgementKind, premiseCount, allRules, ruleAt, entriesFit, wellFormed, checkBy}
 use Rattle.meaning.specs.Step.{checkStep}
+use Rattle.meaning.proofs.Numbering.{rule-count, rule-past}
 use Rattle.numbers.specs.Numbers.{ruleTable, premisesOf, judgementKindOf}
 use Rattle.numbers.proofs.TwoBits.{kind-bound}
 use Rattle.rules.specs.Derives.{isSome, derives, ruleNumbered}
@@ -33,11 +34,6 @@ at-index : {A B : Type 0} (g : A → B) (xs : List A) (k : ℕ) (d : B) → k < 
 at-index g [] k d l = absurd (not-suc-le-zero l)
 at-index g (x ∷ xs) zero d l = (x, refl, refl)
 at-index g (x ∷ xs) (suc k) d l = at-index g xs k d (le-of-suc-le-suc l)
-
-past-index : {A : Type 0} (xs : List A) (k : ℕ) → length xs ≤ k → getElem? xs k ≡ none
-past-index [] k l = refl
-past-index (x ∷ xs) zero l = absurd (not-suc-le-zero l)
-past-index (x ∷ xs) (suc k) l = past-index xs k (le-of-suc-le-suc l)
 
 -- what a rule carries
 abbrev carried : Check → RuleNumber
@@ -55,14 +51,10 @@ table-right : (f : File) → ruleTable ≡ (0, 0) ∷ map carried (allRules f)
 unfolding ruleTable allRules statements rules patternKind premiseCount judgementKind
 table-right f = refl
 
-count : (f : File) → length (allRules f) ≡ 28
-unfolding allRules statements rules
-count f = refl
-
 numbered : (f : File) (n : ℕ) → n < 28 → Numbered f (suc n)
 unfolding ruleAt premisesOf judgementKindOf
 numbered f n l =
-    let x = at-index carried (allRules f) n (0, 0) (rw (count f) l) in
+    let x = at-index carried (allRules f) n (0, 0) (rw (rule-count f) l) in
     let e : carried (x .0) ≡ getD ruleTable (suc n) (0, 0) =
     x .2 ∙ ap (λ (t : List RuleNumber). getD t (suc n) (0, 0)) (sym (table-right f)) in
     record { rule = x .0; numbered = x .1; premises = ap (λ (r : RuleNumber). r .0) e; judgement = ap (λ (r : RuleNumber). r .1) e }
@@ -71,14 +63,6 @@ numbered f n l =
 pub rule-known : (f : File) (n : ℕ) → 1 ≤ n → n ≤ 28 → Numbered f n
 rule-known f zero lo hi = absurd (omega arith)
 rule-known f (suc n) lo hi = numbered f n (omega arith)
-
-pub rule-none : (f : File) → ruleAt f 0 ≡ none
-unfolding ruleAt
-rule-none f = refl
-
-pub rule-past : (f : File) (n : ℕ) → 28 ≤ n → ruleAt f (suc n) ≡ none
-unfolding ruleAt
-rule-past f n l = past-index (allRules f) n (rw (count f) l)
 
 -- rules 6 to 28 are those of the list, in its order
 mapped : {A B : Type 0} (g : A → B) (xs : List A) (k : ℕ) (d : A) → k < length xs → getElem? (map g xs) k ≡ some (g (getD xs k d))

@@ -11,6 +11,7 @@ ghost use lib.Dec.{ltb, eqb};
 ghost use lib.ListN.{length, take, drop};
 ghost use Rattle.task.specs.Reach.{every};
 ghost use Rattle.meaning.specs.File.{File, stepAt};
+ghost use Rattle.meaning.specs.Numbering.{withRule};
 ghost use Rattle.certificate.specs.Known.{decoded};
 ghost use Rattle.rules.specs.Derives.{kindSaid};
 ghost use Rattle.formed.specs.Formed.{formed, IsStep, placeFits, entriesIn};
@@ -53,12 +54,11 @@ fn premises_fit(count: u8, a: u16, b: u16, c: u16, k: u16) -> bool
     place_fits(0 < count, a, k) & place_fits(1 < count, b, k) & place_fits(2 < count, c, k)
 }
 
-// Whether step k passes 8: its rule is known and gives its judgement kind, its entries are in the file, its premises are earlier steps,
-// and unused places are zero.
-pub fn well_formed(at: Places, k: u16, s: Step) -> bool
-    ensures { λ r. ⌜ ((bytes : List ℕ) → IsStep bytes at k s → r ≡ formed (decoded bytes) k (stepAt (decoded bytes) k)) ⌝ }
+// Whether step k passes 8 by the rule that its number stands for: the rule is known and gives the step's judgement kind, its entries
+// are in the file, its premises are earlier steps, and unused places are zero.
+pub fn well_formed(at: Places, k: u16, rule: u8, s: Step) -> bool
+    ensures { λ r. ⌜ ((bytes : List ℕ) → IsStep bytes at k s → r ≡ formed (decoded bytes) k (withRule rule (stepAt (decoded bytes) k))) ⌝ }
 {
-    let rule = s.rule;
     if rule < RuleNumber::B1 {
         return false;
     }

@@ -1,15 +1,15 @@
 -- Replies and answers as one number. Document 01's refusal numbers start at 1, so no refusal's code is 0 or 1
 -- (proofs/CodeLaws.antt).
 -- Assumes nothing.
-use Prim.Native.Nat.{ℕ, _+_, _*_}
+use Prim.Native.Nat.{ℕ, _+_, _*_, min}
 use Rattle.meaning.specs.declared.Reply.{Reply}
 use Rattle.meaning.specs.declared.Reply.the-variants.{Accepted, Refused}
 use Rattle.meaning.specs.declared.Answer.{Answer}
 use Rattle.meaning.specs.declared.Answer.the-variants as answer
 
--- the number above the 32 bits of the place
+-- the number above the 32 bits of the place; a place that has more of them is told as the largest that has not
 unfoldable pub refusalCode : ℕ → ℕ → ℕ
-refusalCode number place = number * 4294967296 + place
+refusalCode number place = number * 4294967296 + min place 4294967295
 
 unfoldable pub codeOf : Reply → ℕ
 codeOf Accepted = 0

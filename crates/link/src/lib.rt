@@ -3,6 +3,7 @@ use meaning::Answer;
 use meaning::Reply;
 use question::ask;
 use verifier::check;
+use verifier::check_numbered;
 ghost use mathlib.Core.Path.{_≡_};
 ghost use Rattle.task.specs.Reach.{Safe};
 ghost use Rattle.meaning.specs.Result.{found};
@@ -10,14 +11,21 @@ ghost use Rattle.meaning.specs.File.{File};
 ghost use Rattle.meaning.specs.Layout.{readFile};
 ghost use Rattle.meaning.specs.declared.Answer.the-variants.{In, Out};
 ghost use Rattle.meaning.specs.Reply.{replyOf};
+ghost use Rattle.meaning.specs.Numbering.{replyNumbered};
 ghost use Rattle.meaning.specs.Question.{answerOf};
 ghost use Rattle.link.specs.Code.{refusalCode, codeOf, answerCodeOf};
 
-// A refusal as one number: the refusal number above the 32 bits of the place.
-fn refusal_code(number: u8, place: u32) -> u64
+// A refusal as one number: the refusal number above the 32 bits of the place, and for a place that has more than 32 bits the largest
+// that has not.
+fn refusal_code(number: u8, place: u64) -> u64
     ensures { λ r. ⌜ r ≡ refusalCode number place ⌝ }
 {
-    number as u64 * 4294967296 + place as u64
+    let low = if place < 4294967295 {
+        place
+    } else {
+        4294967295
+    };
+    number as u64 * 4294967296 + low
 }
 
 // Whether a file's certificate shows that its task is safe: 0 where it does, else the refusal.
@@ -33,6 +41,20 @@ pub extern "C" fn certificate_check(file: &[u8]) -> u64
     }
 }
 
+// The same for a file whose steps have the rule numbers of a list, the k-th of which stands for rule k.
+#[no_mangle]
+pub extern "C" fn certificate_check_numbered(file: &[u8], numbers: &[u8]) -> u64
+    ensures code { λ r. ⌜ r ≡ codeOf (replyNumbered (now (file .entry)) (now (numbers .entry))) ⌝ }
+    ensures safe { λ r. ⌜ (r ≡ 0 → (f : File) × (readFile (now (file .entry)) ≡ found f) × Safe (f .task)) ⌝ }
+    ensures untouched { λ r. ⌜ now (file .exit) ≡ now (file .entry) ⌝ }
+    ensures list_untouched { λ r. ⌜ now (numbers .exit) ≡ now (numbers .entry) ⌝ }
+{
+    match check_numbered(file, numbers) {
+        Reply::Accepted => 0,
+        Reply::Refused { number, place } => refusal_code(number, place),
+    }
+}
+
 // Whether a state is in the set of an entry of a file: 0 where it is out, 1 where it is in, else the refusal.
 #[no_mangle]
 pub extern "C" fn certificate_ask(file: &[u8], entry: u64, state: u64) -> u64
@@ -43,6 +65,6 @@ pub extern "C" fn certificate_ask(file: &[u8], entry: u64, state: u64) -> u64
     match ask(file, entry, state) {
         Answer::Out => 0,
         Answer::In => 1,
-        Answer::Refused { number, place } => refusal_code(number, place),
+        Answer::Refused { number, place } => refusal_code(number, place as u64),
     }
 }

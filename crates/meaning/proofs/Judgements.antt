@@ -74,7 +74,7 @@ accepted-out (refuse n p) e = let z : _≡_ {A = ℕ} 0 1 = cc in absurd (omega 
 accepted-out (found tt) e = refl
 
 -- the last step of a file that passes is "unsolvable", and it holds
-file-safe : (f : File) → Ordered f → Bounded (f .task) → 0 < length (f .steps) → checkFile f ≡ found tt → Safe (f .task)
+pub file-safe : (f : File) → Ordered f → Bounded (f .task) → 0 < length (f .steps) → checkFile f ≡ found tt → Safe (f .task)
 unfolding checkFile
 file-safe f o b p e =
     let c = bind-out (checkSteps f 0 (f .steps)) _ tt e in

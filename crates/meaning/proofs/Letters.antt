@@ -1,6 +1,6 @@
 -- What a match tells of the letters: what was known stays known, and more may be.
 -- Assumes nothing.
-use mathlib.Core.Path.{_≡_, refl, sym, ap, _∙_, subst}
+use mathlib.Core.Path.{_≡_, refl, sym, ap, _∙_, subst, fun-ext}
 use mathlib.Core.Option.{Option, none, some}
 use Prim.Native.Nat.{ℕ}
 use native.Mathlib.Omega.{arith}
@@ -16,6 +16,9 @@ then-out : {X Y : Type 0} (o : Option X) (g : X → Option Y) (y : Y) → (o the
 unfolding _then_
 then-out none g y e = no-some y e
 then-out (some x) g y e = (x, refl, e)
+
+pub then-same : {X Y : Type 0} (o o′ : Option X) (g g′ : X → Option Y) → o ≡ o′ → ((x : X) → g x ≡ g′ x) → (o then g) ≡ (o′ then g′)
+then-same o o′ g g′ e h = ap (λ (p : Option _). p then g) e ∙ ap (λ (k : _ → Option _). o′ then k) (fun-ext h)
 
 given-out : {X : Type 0} (b : Bool) (x y : X) → given b x ≡ some y → T b × (x ≡ y)
 unfolding given

@@ -9,6 +9,9 @@ pub mod Back
 pub mod BackEntries
 pub mod Written
 pub mod WrittenBytes
+pub mod Again
+pub mod AgainEntries
+pub mod WritesBack
 pub mod Below
 pub mod Settled
 pub mod Nodes
@@ -21,8 +24,12 @@ pub mod Same
 pub mod Matching
 pub mod Holds
 pub mod Computed
+pub mod Alike
+pub mod Numbering
+pub mod Renumber
 pub mod Points
 pub mod Judgements
+pub mod Rewriting
 pub mod Certain
 pub mod Shallow
 pub mod Refusals

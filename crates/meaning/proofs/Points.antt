@@ -9,12 +9,17 @@ use Rattle.meaning.proofs.Written.{reads-back}
 use Rattle.meaning.proofs.RulesSound.{rules-sound}
 use Rattle.meaning.specs.Certain.{certificateOf}
 use Rattle.meaning.specs.Points.{SampleLength, TwelveCases, RulesSound, JudgementsTrue, AcceptedIsSafe, SafeIsAccepted}
-use Rattle.meaning.specs.Points.{CertainCertificate, SampleForm, ReadsWithin, ReadsBack, Shortcut, RefusalNumbers, AnswerNumbers}
+use Rattle.meaning.specs.Points.{CertainCertificate, SampleForm, ReadsWithin, ReadsBack, WritesBack, Shortcut, RefusalNumbers}
+use Rattle.meaning.specs.Points.{AnswerNumbers, ListFaults, PlainNumbers, Renumbered, RewritingIsBijective, RewrittenIsRead, RewrittenAlike}
+use Rattle.meaning.specs.Points.{NumberedIsSafe, NumberedRefusals}
 use Rattle.meaning.proofs.Computed.{computed}
 use Rattle.meaning.proofs.Judgements.{judgements-true, accepted-is-safe}
 use Rattle.meaning.proofs.Certain.{certain-certificate, safe-is-accepted}
 use Rattle.meaning.proofs.Shallow.{shortcut}
-use Rattle.meaning.proofs.Refusals.{refusal-numbers, answer-numbers}
+use Rattle.meaning.proofs.Refusals.{refusal-numbers, numbered-refusals, answer-numbers}
+use Rattle.meaning.proofs.WritesBack.{writes-back}
+use Rattle.meaning.proofs.Renumber.{renumbered}
+use Rattle.meaning.proofs.Rewriting.{plain-numbers, rewriting-is-bijective, rewritten-is-read, rewritten-alike, numbered-is-safe}
 
 pub the-sample-has-234-bytes : SampleLength
 unfolding computed
@@ -50,6 +55,9 @@ what-is-read-is-within-the-limits = reads-within
 pub what-was-written-is-read-back : ReadsBack
 what-was-written-is-read-back = reads-back
 
+pub what-was-read-is-written-back : WritesBack
+what-was-read-is-written-back = writes-back
+
 pub a-question-takes-one-walk : Shortcut
 a-question-takes-one-walk = shortcut
 
@@ -58,3 +66,28 @@ a-refused-file-has-a-number-to-12 = refusal-numbers
 
 pub a-refused-question-has-its-number : AnswerNumbers
 a-refused-question-has-its-number = answer-numbers
+
+pub a-list-is-refused-before-the-file : ListFaults
+unfolding computed
+a-list-is-refused-before-the-file = (refl, refl, refl, refl, refl)
+
+pub the-list-1-to-28-changes-nothing : PlainNumbers
+the-list-1-to-28-changes-nothing = plain-numbers
+
+pub a-lawful-list-renumbers-one-to-one : Renumbered
+a-lawful-list-renumbers-one-to-one = renumbered
+
+pub rewriting-is-a-bijection : RewritingIsBijective
+rewriting-is-a-bijection = rewriting-is-bijective
+
+pub rewriting-changes-rule-bytes-alone : RewrittenIsRead
+rewriting-changes-rule-bytes-alone = rewritten-is-read
+
+pub a-rewritten-file-has-the-plain-reply : RewrittenAlike
+a-rewritten-file-has-the-plain-reply = rewritten-alike
+
+pub a-file-accepted-with-a-list-is-safe : NumberedIsSafe
+a-file-accepted-with-a-list-is-safe = numbered-is-safe
+
+pub a-refusal-with-a-list-has-its-number : NumberedRefusals
+a-refusal-with-a-list-has-its-number = numbered-refusals

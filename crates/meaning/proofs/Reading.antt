@@ -5,7 +5,7 @@ use Prim.Native.Nat.{ℕ, _+_, _*_, _≤_}
 use mathlib.Core.Bool.{_&&_}
 use mathlib.Core.List.{List}
 use lib.ListN.{length}
-use lib.Dec.{eqb, leb, leb→le}
+use lib.Dec.{eqb, leb, eqb→eq, leb→le}
 use Rattle.task.specs.declared.Action.{Action}
 use Rattle.task.specs.Task.{Task}
 use Rattle.meaning.specs.Result.{found}
@@ -19,6 +19,7 @@ use Rattle.meaning.proofs.Given.{Gives, mask-gives, count-gives, action
 
 -- the parts of a task that is read
 pub record TaskWalked (bytes : List ℕ) (r : Task × ℕ) : Type 0 where
+  pub version : field bytes 1 4 ≡ found 1
   pub n : ℕ
   pub n! : field bytes 1 5 ≡ found n
   pub some-facts : 1 ≤ n
@@ -36,8 +37,8 @@ pub record TaskWalked (bytes : List ℕ) (r : Task × ℕ) : Type 0 where
 pub task-walked : (bytes : List ℕ) (r : Task × ℕ) → readTask bytes ≡ found r → TaskWalked bytes r
 unfolding readTask
 task-walked bytes r e =
-    bind-case (field bytes 1 4) _ r e λ v _ e₁.
-    need-case (eqb v 1) 2 4 _ r e₁ λ _ e₂.
+    bind-case (field bytes 1 4) _ r e λ v v! e₁.
+    need-case (eqb v 1) 2 4 _ r e₁ λ one e₂.
     bind-case (field bytes 1 5) _ r e₂ λ n n! e₃.
     need-case (leb 1 n && leb n 64) 4 5 _ r e₃ λ h e₄.
     bind-case (mask bytes n 6) _ r e₄ λ s s! e₅.
@@ -46,6 +47,7 @@ task-walked bytes r e =
     bind-case (items (action bytes n) 24 24 m) _ r e₇ λ acts acts! q.
     let b = and-out (leb 1 n) (leb n 64) h in
     record {
+      version = subst (λ (x : ℕ). field bytes 1 4 ≡ found x) (eqb→eq v 1 one) v!;
       n = n;
       n! = n!;
       some-facts = leb→le 1 n (b .0);
@@ -120,6 +122,8 @@ step-gives bytes h p s e =
 
 -- the parts of a file that is read, each from where the one before it ends
 pub record Walked (bytes : List ℕ) (f : File) : Type 0 where
+  pub long : 4 ≤ length bytes
+  pub size : number 4 bytes 0 + 4 ≡ length bytes
   pub short : length bytes ≤ 65536
   pub t : Task × ℕ
   pub t! : readTask bytes ≡ found t
@@ -142,7 +146,7 @@ pub file-walked : (bytes : List ℕ) (f : File) → readFile bytes ≡ found f �
 unfolding readFile
 file-walked bytes f e =
     need-case (leb 4 (length bytes) && leb (length bytes) 65536) 1 0 _ f e λ l e₁.
-    need-case (eqb (number 4 bytes 0 + 4) (length bytes)) 1 0 _ f e₁ λ _ e₂.
+    need-case (eqb (number 4 bytes 0 + 4) (length bytes)) 1 0 _ f e₁ λ size e₂.
     bind-case (readTask bytes) _ f e₂ λ t t! e₃.
     bind-case (count bytes 0 256 (t .1)) _ f e₃ λ ac ac! e₄.
     bind-case (entries bytes (actionKinds bytes (length (t .0 .actions))) 0 (t .1 + 2) ac) _ f e₄ λ es es! e₅.
@@ -151,8 +155,11 @@ file-walked bytes f e =
     bind-case (count bytes 1 2048 (ss .1)) _ f e₇ λ kc kc! e₈.
     bind-case (items (step bytes) 12 (ss .1 + 2) kc) _ f e₈ λ ks ks! e₉.
     need-case (leb (length bytes) (ss .1 + 2 + 12 * kc)) 3 (ss .1 + 2 + 12 * kc) _ f e₉ λ last q.
+    let b = and-out (leb 4 (length bytes)) (leb (length bytes) 65536) l in
     record {
-      short = leb→le (length bytes) 65536 (and-out (leb 4 (length bytes)) (leb (length bytes) 65536) l .1);
+      long = leb→le 4 (length bytes) (b .0);
+      size = eqb→eq (number 4 bytes 0 + 4) (length bytes) size;
+      short = leb→le (length bytes) 65536 (b .1);
       t = t;
       t! = t!;
       ac = ac;

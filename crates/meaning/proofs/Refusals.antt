@@ -1,11 +1,11 @@
--- The numbers of refusals: 1 to 12 from the checker, 1 to 7 or 13 from the question.
+-- The numbers of refusals: 1 to 12 from the checker, and 18 of a caller's list; 1 to 7 or 13 from the question.
 -- Assumes nothing.
 use mathlib.Core.Path.{_≡_, refl, subst}
 use Prim.Native.Nat.{ℕ, zero, suc, _+_, _-_, _/_, _≤_}
 use mathlib.Core.Bool.{Bool, true, false, _&&_}
 use mathlib.Core.Logic.{_⊎_, inl, inr}
 use mathlib.Core.Option.{Option, none, some}
-use mathlib.Core.List.{List, [], _∷_}
+use mathlib.Core.List.{List, [], _∷_, _++_}
 use lib.ListN.{getElem?}
 use native.Mathlib.Omega.{arith}
 use lib.Dec.{T, leb, leb→le}
@@ -19,7 +19,8 @@ use Rattle.meaning.specs.declared.Reply.the-variants.{Refused}
 use Rattle.meaning.specs.Reply.{checkSteps, checkFile, replyTo, replyOf}
 use Rattle.meaning.specs.declared.Answer.the-variants as answer
 use Rattle.meaning.specs.Question.{answerTo, answerOf}
-use Rattle.meaning.specs.Points.{RefusalNumbers, AnswerNumbers}
+use Rattle.meaning.specs.Numbering.{checkUnused, checkNumbers, ruleMeant, rewritten, checkRewritten, replyNumbered}
+use Rattle.meaning.specs.Points.{RefusalNumbers, NumberedRefusals, AnswerNumbers}
 use Rattle.meaning.proofs.Results.{and-out}
 
 module _ (ok : ℕ → Type 0) where
@@ -261,16 +262,45 @@ module _ (f : File) where
 
 -- ---- replies and answers
 
-reply-number : (x : Result (Unit {0})) → Numbered OfCheck x → (r p : ℕ) → replyTo x ≡ Refused r p → OfCheck r
+reply-number : (ok : ℕ → Type 0) (x : Result (Unit {0})) → Numbered ok x → (r p : ℕ) → replyTo x ≡ Refused r p → ok r
 unfolding replyTo
-reply-number (refuse n q) h r p e = let same : n ≡ r = cc in subst OfCheck same h
-reply-number (found u) h r p e = let z : _≡_ {A = ℕ} 0 1 = cc in absurd (omega arith)
+reply-number ok (refuse n q) h r p e = let same : n ≡ r = cc in subst ok same h
+reply-number ok (found u) h r p e = let z : _≡_ {A = ℕ} 0 1 = cc in absurd (omega arith)
+
+read-ok : (bytes : List ℕ) → Numbered OfCheck (readFile bytes)
+read-ok bytes = read-file-ok OfCheck (λ r t. let b = of-layout r t in (b .0, omega (arith, b .1))) bytes
 
 pub refusal-numbers : RefusalNumbers
 unfolding replyOf
-refusal-numbers bytes =
-    reply-number _ (then-ok OfCheck _ _ (read-file-ok OfCheck (λ r t. let b = of-layout r t in (b .0, omega (arith, b .1))) bytes)
-    check-ok)
+refusal-numbers bytes = reply-number OfCheck _ (then-ok OfCheck _ _ (read-ok bytes) check-ok)
+
+abbrev OfNumbered : ℕ → Type 0
+OfNumbered r = OfCheck r ⊎ (r ≡ 18)
+
+also : {A : Type 0} (x : Result A) → Numbered OfCheck x → Numbered OfNumbered x
+also (refuse r p) h = inl h
+also (found a) h = tt
+
+module _ (ok : ℕ → Type 0) (h : ok 18) where
+  unused-ok : (earlier xs : List ℕ) → Numbered ok (checkUnused earlier xs)
+  unfolding checkUnused
+  unused-ok earlier [] = tt
+  unused-ok earlier (x ∷ xs) = need-then ok _ 18 _ _ h (unused-ok (earlier ++ x ∷ []) xs)
+
+  numbers-ok : (numbers : List ℕ) → Numbered ok (checkNumbers numbers)
+  unfolding checkNumbers
+  numbers-ok numbers = need-then ok _ 18 _ _ h (unused-ok [] numbers)
+
+-- a list is refused with 18
+pub list-number : (numbers : List ℕ) (r p : ℕ) → checkNumbers numbers ≡ refuse r p → r ≡ 18
+list-number numbers r p e = subst (Numbered (λ n. n ≡ 18)) e (numbers-ok (λ n. n ≡ 18) refl numbers)
+
+pub numbered-refusals : NumberedRefusals
+unfolding replyNumbered checkRewritten
+numbered-refusals bytes numbers =
+    reply-number OfNumbered _
+    (then-ok OfNumbered _ _ (numbers-ok OfNumbered (inr refl) numbers) (λ _.
+    then-ok OfNumbered _ _ (also (readFile bytes) (read-ok bytes)) (λ f. also (checkFile (rewritten (ruleMeant numbers) f)) (check-ok _))))
 
 abbrev OfQuestion : ℕ → Type 0
 OfQuestion r = ((1 ≤ r) × (r ≤ 7)) ⊎ (r ≡ 13)

@@ -1,6 +1,6 @@
 -- The laws of results: what is known where a check gives a value, and what makes it give one.
 -- Assumes nothing.
-use mathlib.Core.Path.{_≡_, refl, ap, _∙_}
+use mathlib.Core.Path.{_≡_, refl, ap, _∙_, fun-ext}
 use mathlib.Core.Option.{Option, none, some}
 use Prim.Native.Nat.{ℕ}
 use native.Mathlib.Omega.{arith}
@@ -60,6 +60,11 @@ need-in false r p t = absurd t
 pub known-in : {A : Type 0} {o : Option A} {a : A} (r p : ℕ) → o ≡ some a → known o r p ≡ found a
 unfolding known
 known-in r p e = ap (λ o. known o r p) e
+
+-- ---- the same in each part
+
+pub bind-same : {A B : Type 0} {r r′ : Result A} {g g′ : A → Result B} → r ≡ r′ → ((x : A) → g x ≡ g′ x) → (r >>= g) ≡ (r′ >>= g′)
+bind-same {A} {B} {r′ = r′} {g = g} e h = ap (λ (s : Result A). s >>= g) e ∙ ap (λ (k : A → Result B). r′ >>= k) (fun-ext h)
 
 -- ---- two tests in one
 

@@ -1,4 +1,4 @@
--- What is written of a certificate that fits is bytes.
+-- What is written of a certificate or a file that fits is bytes.
 -- Assumes nothing.
 use Prim.Native.Nat.{ℕ, zero, suc, _+_, _/_, _%_, _<_}
 use native.Mathlib.Omega.{arith}
@@ -7,12 +7,15 @@ use lib.ListN.{length}
 use lib.Dec.{ltb, lt→ltb}
 use Rattle.task.specs.Reach.{every}
 use Rattle.task.proofs.Tests.{and-left, and-right, and-both}
+use Rattle.task.specs.Task.{Task}
+use Rattle.task.specs.declared.Action.{Action}
 use Rattle.meaning.specs.declared.Clause.{Clause}
 use Rattle.meaning.specs.Bytes.{bytesOf, AreBytes}
 use Rattle.meaning.specs.File.{ActionSet, all, listed, either, empty, init, goal, explicit, horn, twoCnf, StateSet, basic}
-use Rattle.meaning.specs.File.{complement, intersection, union, progression, regression, Step, actionKind, basicKind, stateKind}
+use Rattle.meaning.specs.File.{complement, intersection, union, progression, regression, Step, File, actionKind, basicKind, stateKind}
 use Rattle.meaning.specs.Writing.{each, writeClause, writeEntry, actionBody, basicBody, stateBody, writeActionSet, writeStateSet}
-use Rattle.meaning.specs.Writing.{writeStep, counted, writeCertificate, AllFrom, FitsStep}
+use Rattle.meaning.specs.Writing.{writeAction, writeStep, counted, writeTask, writeCertificate, fileOf, writeFile, AllFrom}
+use Rattle.meaning.specs.Writing.{FitsTask, FitsStep, Fits}
 use Rattle.meaning.proofs.Written.{anything}
 
 -- each number is a byte: of ∷, of ++, of a written number, of items
@@ -98,3 +101,26 @@ certificate-bytes es ss ks i h =
     (bytes-all writeStateSet bytes-state-set ss)))
     (bytes-append (bytesOf 2 (length ks)) (each writeStep ks) (bytes-number 2 (length ks))
     (bytes-each FitsStep writeStep bytes-step ks i h))
+
+bytes-action : (a : Action) → AreBytes (writeAction a)
+unfolding writeAction
+bytes-action a = bytes-append (bytesOf 8 (a .pre) ++ bytesOf 8 (a .add)) (bytesOf 8 (a .del)) (two-numbers 8 8 (a .pre) (a .add))
+    (bytes-number 8 (a .del))
+
+bytes-task : (t : Task) → FitsTask t → AreBytes (writeTask t)
+unfolding writeTask counted
+bytes-task t h =
+    let few = h .few-facts in
+    bytes-append (1 ∷ t .facts ∷ bytesOf 8 (t .init) ++ bytesOf 8 (t .goal)) (bytesOf 2 (length (t .actions)) ++ each writeAction (t .actions))
+    (byte-more 1 _ (omega arith) (byte-more (t .facts) _ (omega arith) (two-numbers 8 8 (t .init) (t .goal))))
+    (bytes-append (bytesOf 2 (length (t .actions))) (each writeAction (t .actions)) (bytes-number 2 (length (t .actions)))
+    (bytes-all writeAction bytes-action (t .actions)))
+
+pub file-bytes : (f : File) → Fits f → AreBytes (writeFile f)
+unfolding writeFile fileOf
+file-bytes f h =
+    let table : List ℕ = writeTask (f .task) in
+    let certificate : List ℕ = writeCertificate (f .actionSets) (f .stateSets) (f .steps) in
+    bytes-append (bytesOf 4 (length (table ++ certificate))) (table ++ certificate) (bytes-number 4 (length (table ++ certificate)))
+    (bytes-append table certificate (bytes-task (f .task) (h .task))
+    (certificate-bytes (f .actionSets) (f .stateSets) (f .steps) 0 (h .certificate .steps)))

@@ -11,6 +11,7 @@ pub mod Truth
 pub mod Match
 pub mod Step
 pub mod Reply
+pub mod Numbering
 pub mod Question
 pub mod Cases
 pub mod Certain

@@ -4,7 +4,7 @@ use mathlib.Core.Path.{_≡_}
 use mathlib.Core.Logic.{_↔_, _⊎_}
 use mathlib.Core.Bool.{not, _&&_}
 use Prim.Native.Nat.{ℕ, zero, suc, _≤_, _<_}
-use mathlib.Core.List.{List, [], _∷_, map}
+use mathlib.Core.List.{List, [], _∷_, _++_, map}
 use lib.ListN.{length, take, drop}
 use lib.Dec.{T, leb}
 use Rattle.task.specs.Task.{Task}
@@ -21,6 +21,7 @@ use Rattle.meaning.specs.Truth.{SoundRules}
 use Rattle.meaning.specs.declared.Reply.the-variants.{Accepted, Refused}
 use Rattle.meaning.specs.declared.Answer.the-variants as answer
 use Rattle.meaning.specs.Reply.{checkSteps, replyOf}
+use Rattle.meaning.specs.Numbering.{checkNumbers, ruleNumbers, rewritten, replyNumbered, rewriteBytes, Renumbering}
 use Rattle.meaning.specs.Question.{depth, hasProgression, shallow, answerOf}
 use Rattle.meaning.specs.Cases.{Case, cases, sample}
 use Rattle.meaning.specs.Certain.{certificateOf}
@@ -77,6 +78,10 @@ ReadsWithin = (bytes : List ℕ) (f : File) → AreBytes bytes → readFile byte
 abbrev pub ReadsBack : Type 0
 ReadsBack = (f : File) → Fits f → length (writeFile f) ≤ 65536 → readFile (writeFile f) ≡ found f
 
+-- A file has no other bytes than those that are written of what is read.
+abbrev pub WritesBack : Type 0
+WritesBack = (bytes : List ℕ) (f : File) → AreBytes bytes → readFile bytes ≡ found f → writeFile f ≡ bytes
+
 -- A question's bounds, by document 01's depth and progression, are those of one walk at most four levels down.
 abbrev pub Shortcut : Type 0
 Shortcut =
@@ -89,3 +94,51 @@ RefusalNumbers = (bytes : List ℕ) (r p : ℕ) → replyOf bytes ≡ Refused r 
 
 abbrev pub AnswerNumbers : Type 0
 AnswerNumbers = (bytes : List ℕ) (e s r p : ℕ) → answerOf bytes e s ≡ answer.Refused r p → ((1 ≤ r) × (r ≤ 7)) ⊎ (r ≡ 13)
+
+-- ---- document 02, i: a caller's own rule numbers
+
+-- A list's faults, with an empty file: its length first; a zero; of two equal bytes the later; and all of them before the file's 1.
+abbrev pub ListFaults : Type 0
+ListFaults =
+    (replyNumbered [] [] ≡ Refused 18 0)
+    × (replyNumbered [] (0 ∷ ruleNumbers) ≡ Refused 18 29)
+    × (replyNumbered [] (take 27 ruleNumbers ++ 0 ∷ []) ≡ Refused 18 27)
+    × (replyNumbered [] (take 27 ruleNumbers ++ 1 ∷ []) ≡ Refused 18 27)
+    × (replyNumbered [] ruleNumbers ≡ Refused 1 0)
+
+-- With the list 1 to 28 the reply is the plain one.
+abbrev pub PlainNumbers : Type 0
+PlainNumbers = (bytes : List ℕ) → replyNumbered bytes ruleNumbers ≡ replyOf bytes
+
+-- By each lawful list bytes can be rewritten one to one, rule k's as the list's k-th.
+abbrev pub Renumbered : Type 0
+Renumbered =
+    (numbers : List ℕ) → AreBytes numbers → checkNumbers numbers ≡ found tt
+    → (to : ℕ → ℕ) × (from : ℕ → ℕ) × Renumbering numbers to from
+
+-- However that is done, it is a bijection on lists of bytes, which rewrites a file's rule bytes and nothing else,
+abbrev pub RewritingIsBijective : Type 0
+RewritingIsBijective =
+    (numbers : List ℕ) (to from : ℕ → ℕ) → Renumbering numbers to from → (bytes : List ℕ) → AreBytes bytes
+    → (AreBytes (rewriteBytes to bytes) × AreBytes (rewriteBytes from bytes))
+    × (rewriteBytes from (rewriteBytes to bytes) ≡ bytes) × (rewriteBytes to (rewriteBytes from bytes) ≡ bytes)
+
+abbrev pub RewrittenIsRead : Type 0
+RewrittenIsRead =
+    (numbers : List ℕ) (to from : ℕ → ℕ) → Renumbering numbers to from → (bytes : List ℕ) (f : File) → AreBytes bytes
+    → readFile bytes ≡ found f → readFile (rewriteBytes to bytes) ≡ found (rewritten to f)
+
+-- and with the list the rewritten file gets the reply of the plain one.
+abbrev pub RewrittenAlike : Type 0
+RewrittenAlike =
+    (numbers : List ℕ) (to from : ℕ → ℕ) → checkNumbers numbers ≡ found tt → Renumbering numbers to from
+    → (bytes : List ℕ) → AreBytes bytes → replyNumbered (rewriteBytes to bytes) numbers ≡ replyOf bytes
+
+-- Of a file that is accepted with a list, no list of the task's actions, played from the start, passes a forbidden state.
+abbrev pub NumberedIsSafe : Type 0
+NumberedIsSafe =
+    (bytes numbers : List ℕ) → replyNumbered bytes numbers ≡ Accepted → (f : File) × (readFile bytes ≡ found f) × Safe (f .task)
+
+-- A refusal is one of a file, or 18 of the list.
+abbrev pub NumberedRefusals : Type 0
+NumberedRefusals = (bytes numbers : List ℕ) (r p : ℕ) → replyNumbered bytes numbers ≡ Refused r p → ((1 ≤ r) × (r ≤ 12)) ⊎ (r ≡ 18)

@@ -7,10 +7,10 @@ pub struct Clause {
     pub negative: u64,
 }
 
-// The checker's reply: accepted, or document 01's refusal number and place.
+// The checker's reply: accepted, or document 01's or 02's refusal number and place. A place may be the length of a caller's list.
 pub enum Reply {
     Accepted,
-    Refused { number: u8, place: u32 },
+    Refused { number: u8, place: u64 },
 }
 
 // The answer to a question: in, out, or document 01's refusal number and place.

@@ -38,7 +38,7 @@ fn put_number(line: &mut [u8], at: usize, n: u64) -> usize
     put(line, at, &text[..k])
 }
 
-fn refused_line(number: u8, place: u32, line: &mut [u8]) -> usize
+fn refused_line(number: u8, place: u64, line: &mut [u8]) -> usize
     requires { ⌜ 50 ≤ length (now line) ⌝ }
     ensures { λ r. ⌜ Counts r (now (line .exit)) ⌝ }
     ensures { λ r. ⌜ RefusedLine number place (take r (now (line .exit))) ⌝ }
@@ -46,7 +46,7 @@ fn refused_line(number: u8, place: u32, line: &mut [u8]) -> usize
     let word = put(line, 0, b"refused ");
     let first = put_number(line, word, number as u64);
     let space = put(line, first, b" ");
-    let second = put_number(line, space, place as u64);
+    let second = put_number(line, space, place);
     put(line, second, b"\n")
 }
 
@@ -71,7 +71,7 @@ fn answer_line(answer: Answer, line: &mut [u8]) -> usize
     match answer {
         Answer::In => put(line, 0, b"in\n"),
         Answer::Out => put(line, 0, b"out\n"),
-        Answer::Refused { number, place } => refused_line(number, place, line),
+        Answer::Refused { number, place } => refused_line(number, place as u64, line),
     }
 }
 

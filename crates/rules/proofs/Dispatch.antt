@@ -17,7 +17,7 @@ use Rattle.meaning.specs.Match.{Letters, noLetters, matchStep}
 use Rattle.meaning.specs.Step.{derivation, premiseCount}
 use Rattle.patterns.specs.Matched.{matched}
 use Rattle.rules.specs.Derives.{isSome, ruleNumbered, saying, matchSaid, follows, byRule}
-use Rattle.rules.proofs.Saying.{then-same}
+use Rattle.meaning.proofs.Letters.{then-same}
 
 -- the judgements are the same as far as there are patterns
 abbrev Alike : List Pattern → List Judgement → List Judgement → Type 0

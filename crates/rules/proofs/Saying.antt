@@ -1,6 +1,6 @@
 -- A step is derived where what it says follows from what its premises say.
 -- Assumes nothing.
-use mathlib.Core.Path.{_≡_, refl, ap, _∙_, fun-ext}
+use mathlib.Core.Path.{_≡_, refl, ap, _∙_}
 use Prim.Native.Nat.{ℕ, zero, suc, _-_, _≤_}
 use native.Mathlib.Omega.{arith}
 use mathlib.Core.Bool.{Bool, true, false}
@@ -8,6 +8,7 @@ use mathlib.Core.Option.{Option}
 use mathlib.Core.List.{List, [], _∷_, map}
 use lib.Dec.{T, eqb, eqb·suc-zero, eqb·suc-suc}
 use lib.ListN.{getD}
+use Rattle.meaning.proofs.Letters.{then-same}
 use Rattle.task.specs.Reach.{every}
 use Rattle.task.proofs.Tests.{and-left, and-right}
 use Rattle.meaning.specs.File.{Step, File, stepAt}
@@ -62,9 +63,6 @@ unfolding ruleNumbered every
 numbered-plain n = every-default plainRule rules (n - 6) ([] ⊢ dead O) all-plain tt
 
 -- ---- a step and what it says
-
-pub then-same : {X Y : Type 0} (o o′ : Option X) (g g′ : X → Option Y) → o ≡ o′ → ((x : X) → g x ≡ g′ x) → (o then g) ≡ (o′ then g′)
-then-same o o′ g g′ e h = ap (λ (p : Option _). p then g) e ∙ ap (λ (k : _ → Option _). o′ then k) (fun-ext h)
 
 module _ (f : File) where
   -- a pattern matches what a step says where it matches the step

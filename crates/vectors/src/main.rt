@@ -1,5 +1,6 @@
 // Reads cases on standard input, one record each, and prints a reply a line: what the other checker replied is compared with it.
-// A record is 0, or 1 for a question (1 byte), entry (8), state (8), the file's length (4) and the file.
+// A record is its kind (1 byte), entry (8), state (8), the file's length (4) and the file. Kind 0 is a file to check, 1 a question, 2 a
+// file with a list of rule numbers: the list's length stands in the entry's place, and the list before the file.
 use bytes::u32_at;
 use bytes::u64_at;
 use libc::STDIN_FILENO;
@@ -7,6 +8,7 @@ use printing::print_answer;
 use printing::print_reply;
 use question::ask;
 use verifier::check;
+use verifier::check_numbered;
 ghost use mathlib.Core.Path.{_≡_};
 ghost use lib.ListN.{length};
 
@@ -20,6 +22,17 @@ fn read_part(buffer: &mut [u8], len: usize) -> usize
     io::read_full(STDIN_FILENO, &mut buffer[..len])
 }
 
+// Replies to a case.
+fn reply(kind: u8, entry: u64, state: u64, numbers: &[u8], file: &[u8]) {
+    if kind == 0 {
+        print_reply(check(file));
+    } else if kind == 1 {
+        print_answer(ask(file, entry, state));
+    } else {
+        print_reply(check_numbered(file, numbers));
+    }
+}
+
 // One case: whether there was one.
 fn one_case() -> bool {
     let mut head = [0u8; 21];
@@ -27,22 +40,23 @@ fn one_case() -> bool {
     if got < 21 {
         return false;
     }
-    let question = head[0];
+    let kind = head[0];
     let entry = u64_at(&head, 1);
     let state = u64_at(&head, 9);
     let len = u32_at(&head, 17) as usize;
-    if 65537 < len {
+    let count = if kind == 2 { entry as usize } else { 0 };
+    if (1024 < count) | (65537 < len) {
         return false;
     }
+    let mut numbers = [0u8; 1024];
     let mut file = [0u8; 65537];
+    if read_part(&mut numbers, count) < count {
+        return false;
+    }
     if read_part(&mut file, len) < len {
         return false;
     }
-    if question == 0 {
-        print_reply(check(&file[..len]));
-    } else {
-        print_answer(ask(&file[..len], entry, state));
-    }
+    reply(kind, entry, state, &numbers[..count], &file[..len]);
     true
 }
 

@@ -1,4 +1,5 @@
--- The reply to a file from the code's walk over its steps, and what the layout check tells.
+-- The reply to a file from the code's walk over its steps, each by the rule that its number stands for, and what the layout check
+-- tells.
 -- Assumes nothing.
 use mathlib.Core.Path.{_≡_, refl, sym, ap, _∙_, subst}
 use Prim.Native.Nat.{ℕ, zero, suc, _+_, _-_, _≤_, _<_}
@@ -20,7 +21,8 @@ use Rattle.certificate.specs.declared.StepReply.the-variants as step
 use Rattle.meaning.specs.Result.{Result, refuse, found, _>>=_, need, known}
 use Rattle.meaning.specs.File.{Step, File, stepAt}
 use Rattle.meaning.specs.Layout.{readFile}
-use Rattle.certificate.specs.Views.{judgementOf, judgementAt}
+use Rattle.certificate.specs.declared.Step as code
+use Rattle.certificate.specs.Views.{judgementOf, judgementAt, stepOf}
 use Rattle.certificate.specs.Known.{Placed, decoded}
 use Rattle.certificate.proofs.KnownLaws.{read-file, placed-steps}
 use Rattle.formed.proofs.StepLaws.{passed-kind}
@@ -30,6 +32,10 @@ use Rattle.derivation.specs.StepReply.{stepReply}
 use Rattle.meaning.specs.declared.Reply.{Reply}
 use Rattle.meaning.specs.declared.Reply.the-variants.{Accepted, Refused}
 use Rattle.meaning.specs.Reply.{checkSteps, checkFile, replyTo, replyOf}
+use Rattle.meaning.specs.Numbering.{checkNumbers, ruleMeant, withRule, rewritten, checkRewritten, replyNumbered}
+use Rattle.numbering.specs.Table.{Stands}
+use Rattle.meaning.proofs.Results.{bind-same}
+use Rattle.meaning.proofs.Alike.{count-stays, step-stays, step-renamed, checked-same, rewritten-same}
 
 -- ---- a step's refusal names the step
 
@@ -147,21 +153,88 @@ module _ (f : File) where
       e f (last .says one) (last .kind one)
       ∙ ap (λ (c : ℕ). replyTo (need (eqb (stepAt f (c - 1) .kind) 3) 12 (c - 1))) m ∙ rw w refl
 
+-- ---- the rules that numbers stand for
+
+module _ (g : ℕ → ℕ) (f : File) where
+  as-many-steps : length (rewritten g f .steps) ≡ length (f .steps)
+  unfolding rewritten
+  as-many-steps = count-stays g (f .steps)
+
+  same-judgement : (k : ℕ) → judgementAt (rewritten g f) k ≡ judgementAt f k
+  unfolding judgementAt
+  same-judgement k = ap (λ (s : Step). judgementOf (s .kind) (s .left) (s .right)) (step-stays g f k)
+
+  -- step k by the rule that its number stands for, as a table has it, is the rewritten file's step
+  module _ (k : ℕ) (rules : List ℕ) {s : code.Step} {r : StepReply} (stands : Stands rules g) (l : k < length (f .steps))
+      (is : s ≡ stepOf (stepAt f k)) (byte : s .rule < 256)
+      (e : r ≡ stepReply (checkStep f k (withRule (getD rules (s .rule) 0) (stepAt f k)))) where
+    rule-meant : getD rules (s .rule) 0 ≡ g (stepAt f k .rule)
+    unfolding stepOf
+    rule-meant = stands (s .rule) byte ∙ ap g (ap (λ (x : code.Step). x .rule) is)
+
+    told : r ≡ stepReply (checkStep (rewritten g f) k (stepAt (rewritten g f) k))
+    told =
+        e
+        ∙ ap stepReply (ap (λ (x : ℕ). checkStep f k (withRule x (stepAt f k))) rule-meant ∙ ap (checkStep f k) (sym (step-renamed g f k l))
+        ∙ sym (checked-same g f k (stepAt (rewritten g f) k)))
+
+    inside : k < length (rewritten g f .steps)
+    inside = let n = as-many-steps in omega arith
+
+    pub refused-as : (n : ℕ) → Passing (rewritten g f) k → r ≡ step.Refused n → Refused n k ≡ replyTo (checkFile (rewritten g f))
+    refused-as n h t = step-refused (rewritten g f) k n inside h t told
+
+    pub passed-as : Passing (rewritten g f) k → r ≡ step.Passed
+        → Passing (rewritten g f) (k + 1) × Kept (rewritten g f) (k + 1) (s .judgement)
+    unfolding judgementAt stepOf
+    passed-as h t = (
+      step-passed (rewritten g f) k inside h t told,
+      step-kept (rewritten g f) k t told (ap (λ (x : code.Step). x .judgement) is ∙ sym (same-judgement k)),
+    )
+
+  -- all of the n steps passed
+  pub all-as : (k n : ℕ) {r : Reply} {said : Judgement} → n ≡ length (f .steps) → 0 < n → k ≤ n → n ≤ k
+      → Passing (rewritten g f) k → Kept (rewritten g f) k said
+      → ((h : File) → said ≡ judgementAt h (n - 1) → stepAt h (n - 1) .kind < 4
+      → r ≡ replyTo (need (eqb (stepAt h (n - 1) .kind) 3) 12 (n - 1)))
+      → r ≡ replyTo (checkFile (rewritten g f))
+  all-as k n m = steps-passed (rewritten g f) k n (m ∙ sym as-many-steps)
+
 -- ---- the reply to the bytes
 
-pub read-reply : (bytes : List ℕ) → readFile bytes ≡ found (decoded bytes) → replyTo (checkFile (decoded bytes)) ≡ replyOf bytes
-unfolding replyOf _>>=_
-read-reply bytes h = rw h refl
+module _ (g : ℕ → ℕ) (bytes : List ℕ) where
+  pub read-reply : readFile bytes ≡ found (decoded bytes)
+      → replyTo (checkFile (rewritten g (decoded bytes))) ≡ replyTo (checkRewritten g bytes)
+  unfolding checkRewritten _>>=_
+  read-reply h = rw h refl
 
-pub unread-reply : (bytes : List ℕ) (r p : ℕ) → readFile bytes ≡ refuse r p → Refused r p ≡ replyOf bytes
-unfolding replyOf replyTo _>>=_
-unread-reply bytes r p h = rw h refl
+  pub unread-reply : (r p : ℕ) → readFile bytes ≡ refuse r p → Refused r p ≡ replyTo (checkRewritten g bytes)
+  unfolding checkRewritten replyTo _>>=_
+  unread-reply r p h = rw h refl
+
+-- where each byte stands for itself
+pub plain-reply : (bytes : List ℕ) → replyTo (checkRewritten (λ x. x) bytes) ≡ replyOf bytes
+unfolding checkRewritten replyOf
+plain-reply bytes = ap replyTo (bind-same refl (λ f. ap checkFile (rewritten-same f (λ x. x) (λ x. refl))))
+
+-- by a list
+module _ (bytes numbers : List ℕ) where
+  pub list-reply : (p : ℕ) → checkNumbers numbers ≡ refuse 18 p → Refused 18 p ≡ replyNumbered bytes numbers
+  unfolding replyNumbered replyTo _>>=_
+  list-reply p h = rw h refl
+
+  pub numbered-reply : checkNumbers numbers ≡ found tt → replyTo (checkRewritten (ruleMeant numbers) bytes) ≡ replyNumbered bytes numbers
+  unfolding replyNumbered _>>=_
+  numbered-reply h = rw h refl
 
 -- ---- the last step
 
-pub some-step : (bytes : List ℕ) (at : Places) → Placed bytes at → 0 < at .steps
-some-step bytes at k =
-    let l = read-file bytes (k .read) .some-steps in let e = placed-steps bytes at k in omega (arith, l, e)
+pub step-count : (bytes : List ℕ) (at : Places) → Placed bytes at → (0 < at .steps) × (at .steps ≤ 2048)
+step-count bytes at k =
+    let l = read-file bytes (k .read) .some-steps in
+    let m = read-file bytes (k .read) .few-steps in
+    let e = placed-steps bytes at k in
+    (omega (arith, l, e), omega (arith, m, e))
 
 -- of the four kinds only the last is shown as "unsolvable"
 unsolvable-kind : (k a b : ℕ) → k < 4 → judgementOf k a b ≡ Unsolvable → k ≡ 3

@@ -1,4 +1,4 @@
-// The checker of a whole file.
+// The checker of a whole file, by document 01's rule numbers or by a caller's own.
 use certificate::Index;
 use certificate::Judgement;
 use certificate::Outline;
@@ -9,8 +9,12 @@ use derivation::reply::check_step;
 use layout::read_layout;
 use lookup::step;
 use meaning::Reply;
+use numbering::ListReply;
+use numbering::RuleTable;
+use numbering::numbering_of;
+use numbering::own_numbers;
 ghost use mathlib.Core.Path.{_≡_};
-ghost use Prim.Native.Nat.{_<_};
+ghost use Prim.Native.Nat.{ℕ, _<_};
 ghost use lib.Dec.{eqb};
 ghost use Rattle.task.specs.Reach.{Safe};
 ghost use Rattle.meaning.specs.Result.{found, need};
@@ -20,9 +24,11 @@ ghost use Rattle.certificate.specs.Views.{judgementAt};
 ghost use Rattle.certificate.specs.Known.{Placed, Known, decoded};
 ghost use Rattle.meaning.specs.declared.Reply.the-variants.{Accepted};
 ghost use Rattle.meaning.specs.Reply.{checkFile, replyTo, replyOf};
+ghost use Rattle.meaning.specs.Numbering.{rewritten, checkRewritten, replyNumbered};
+ghost use Rattle.numbering.specs.Table.{Stands};
 
 // The reply after all steps passed, from what the last one, step k, says.
-fn last_step(said: Judgement, k: u32) -> Reply
+fn last_step(said: Judgement, k: u64) -> Reply
     ensures { λ r. ⌜ ((f : File) → said ≡ judgementAt f k → stepAt f k .kind < 4 → r ≡ replyTo (need (eqb (stepAt f k .kind) 3) 12 k)) ⌝ }
 {
     let Judgement::Unsolvable = said else {
@@ -34,28 +40,45 @@ fn last_step(said: Judgement, k: u32) -> Reply
     Reply::Accepted
 }
 
-// The steps in turn, and then whether the last one says "unsolvable".
-fn check_steps(file: &[u8], at: Places, index: &Index) -> Reply
+// The steps in turn, each by the rule that its number stands for, and then whether the last one says "unsolvable".
+fn check_steps(file: &[u8], at: Places, index: &Index, rules: &RuleTable) -> Reply
     requires { ⌜ Placed (now file) at ⌝ }
     requires { ⌜ Known (now file) (now index) ⌝ }
-    ensures { λ r. ⌜ r ≡ replyTo (checkFile (decoded (now (file .entry)))) ⌝ }
+    ensures { λ r. ⌜ ((g : ℕ → ℕ) → Stands (now (rules .entry)) g → r ≡ replyTo (checkFile (rewritten g (decoded (now (file .entry)))))) ⌝ }
 {
     let count = at.steps;
     let mut said = Judgement::Dead(0);
     let mut k = 0u16;
     while k < count {
         let s = step(file, at, k);
-        match check_step(file, at, index, k, s) {
+        let rule = rules[s.rule as usize];
+        match check_step(file, at, index, k, rule, s) {
             StepReply::Passed => {}
             StepReply::Refused(number) => {
-                let place = k as u32;
+                let place = k as u64;
                 return Reply::Refused { number, place };
             }
         }
         said = s.judgement;
         k += 1;
     }
-    last_step(said, count as u32 - 1)
+    last_step(said, count as u64 - 1)
+}
+
+// The reply to a file whose rule bytes stand for the rules of a table.
+fn check_by(file: &[u8], rules: &RuleTable) -> Reply
+    ensures { λ r. ⌜ ((g : ℕ → ℕ) → Stands (now (rules .entry)) g → r ≡ replyTo (checkRewritten g (now (file .entry)))) ⌝ }
+{
+    match read_layout(file) {
+        Outline::Refused { number, place } => {
+            let place = place as u64;
+            Reply::Refused { number, place }
+        }
+        Outline::Lawful(at) => {
+            let index = index_of(file, at);
+            check_steps(file, at, &index, rules)
+        }
+    }
 }
 
 // Whether a file's certificate shows that its task is safe.
@@ -64,11 +87,25 @@ pub fn check(file: &[u8]) -> Reply
     ensures untouched { λ r. ⌜ now (file .exit) ≡ now (file .entry) ⌝ }
     ensures safe { λ r. ⌜ (r ≡ Accepted → (f : File) × (readFile (now (file .entry)) ≡ found f) × Safe (f .task)) ⌝ }
 {
-    match read_layout(file) {
-        Outline::Refused { number, place } => Reply::Refused { number, place },
-        Outline::Lawful(at) => {
-            let index = index_of(file, at);
-            check_steps(file, at, &index)
+    let rules = own_numbers();
+    check_by(file, &rules)
+}
+
+// The same for a file whose steps have the rule numbers of a caller's list, the k-th of which stands for rule k. The list's own faults
+// come first.
+pub fn check_numbered(file: &[u8], numbers: &[u8]) -> Reply
+    ensures reply { λ r. ⌜ r ≡ replyNumbered (now (file .entry)) (now (numbers .entry)) ⌝ }
+    ensures untouched { λ r. ⌜ now (file .exit) ≡ now (file .entry) ⌝ }
+    ensures list_untouched { λ r. ⌜ now (numbers .exit) ≡ now (numbers .entry) ⌝ }
+    ensures safe { λ r. ⌜ (r ≡ Accepted → (f : File) × (readFile (now (file .entry)) ≡ found f) × Safe (f .task)) ⌝ }
+{
+    let list = numbering_of(numbers);
+    let reply = list.reply;
+    match reply {
+        ListReply::Refused(place) => {
+            let number = 18;
+            Reply::Refused { number, place }
         }
+        ListReply::Lawful => check_by(file, &list.rules),
     }
 }

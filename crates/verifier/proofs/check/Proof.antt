@@ -1,34 +1,16 @@
--- `check` meets its contract: a file that is not read is refused as the layout check says, and one that is read by its steps; an accepted
--- file is safe.
+-- `check` meets its contract: by a table in which each byte stands for itself; an accepted file is safe.
 -- Assumes nothing.
 use mathlib.Core.Path.{sym, _∙_, refl}
 use borrow.Author.Needs.{needs}
 use Rattle.meaning.proofs.Judgements.{accepted-is-safe}
-use Rattle.certificate.proofs.OutlineKnown.{lawful-placed, refused-read}
-use Rattle.verifier.proofs.CheckLaws.{read-reply, unread-reply}
+use Rattle.verifier.proofs.CheckLaws.{plain-reply}
 use Rattle.verifier.proofs.check.Statement.{statement}
 use Rattle.verifier.proofs.check.Tie as tie
 
-index-of-requires : tie.Need-index-of-requires
-index-of-requires c κs = let a = c .before in lawful-placed _ (a .before .before .read-layout .ensures) _ (a .at .given .1)
-
-check-steps-requires : tie.Need-check-steps-requires
-check-steps-requires c κs =
-    let a = c .before .before .before in
-    (lawful-placed _ (a .before .before .read-layout .ensures) _ (a .at .given .1), c .before .index-of .ensures)
-
 returns : tie.Need-returns
 returns c =
-    let e = unread-reply _ _ _ (refused-read _ (c .before .before .before .read-layout .ensures) _ _ (c .before .number .given .1)) in
-    (e, (refl, λ y. accepted-is-safe _ (sym e ∙ y)))
-
-returns-2 : tie.Need-returns-2
-returns-2 c =
-    let i = c .before .before in
-    let e = c .check-steps .ensures ∙ read-reply _ (i .index-of .ensures .read) in
+    let e = c .check-by .ensures (λ x. x) (c .before .before .own-numbers .ensures) ∙ plain-reply _ in
     (e, (refl, λ y. accepted-is-safe _ (sym e ∙ y)))
 
 pub check-spec : {M : Type 1} → statement M
-check-spec =
-    tie.close (tie.spec
-    (λ c κs. search needs) (λ c. search needs) (λ c. search needs) index-of-requires check-steps-requires returns returns-2)
+check-spec = tie.close (tie.spec (λ c κs. search needs) (λ c κs. search needs) returns)

@@ -1,68 +1,76 @@
--- `check_steps` meets its contract. The loop's invariant: the steps that are left say what all of them say, and what the step before
--- says is kept.
+-- `check_steps` meets its contract. The loop's invariant: in the file rewritten by what the table says, the steps that are left say what
+-- all of them say, and what the step before says is kept.
 -- Assumes nothing.
-use Prim.Native.Nat.{_-_, _≤_, _<_}
+use Prim.Native.Nat.{ℕ, _-_, _≤_, _<_}
 use native.Mathlib.Omega.{arith}
 use borrow.Author.Needs.{needs}
-use mathlib.Core.Path.{ap}
-use Rattle.certificate.specs.declared.Step as code
-use Rattle.certificate.specs.Views.{judgementAt, stepOf}
 use Rattle.certificate.specs.Known.{decoded}
 use Rattle.certificate.proofs.KnownLaws.{placed-steps}
-use Rattle.verifier.proofs.CheckLaws.{some-step, Passing, passing-start, Kept}
-use Rattle.verifier.proofs.CheckLaws.{kept-none, step-passed, step-kept, step-refused, steps-passed}
+use Rattle.meaning.specs.Numbering.{rewritten}
+use Rattle.numbering.specs.Table.{Stands}
+use Rattle.verifier.proofs.CheckLaws.{step-count, Passing, passing-start, Kept, kept-none, refused-as, passed-as, all-as}
 use Rattle.verifier.proofs.check_steps.Statement.{statement}
 use Rattle.verifier.proofs.check_steps.Tie as tie
 
 abbrev Inv-loop : tie.InvT-loop
-Inv-loop file at index count said₀ k₀ said k = ((0 < count) × (k ≤ count)) × (Passing (decoded file) k × Kept (decoded file) k said)
+Inv-loop file at index rules count said₀ k₀ said k =
+    ((0 < count) × (count ≤ 2048) × (k ≤ count))
+    × ((g : ℕ → ℕ) → Stands rules g → Passing (rewritten g (decoded file)) k × Kept (rewritten g (decoded file)) k said)
 
 abbrev μ-loop : tie.MeasureT-loop
-μ-loop file at index count said₀ k₀ said k = count - k
+μ-loop file at index rules count said₀ k₀ said k = count - k
 
 loop-holds : tie.Need-loop-holds Inv-loop μ-loop
-loop-holds c = let l = some-step _ _ (c .before .pre .0) in ((l, search needs), (passing-start _, kept-none _ _))
+loop-holds c =
+    let n = step-count _ _ (c .before .pre .0) in
+    ((n .0, n .1, search needs), λ g _. (passing-start _, kept-none _ _))
 
 check-step-requires : tie.Need-check-step-requires Inv-loop μ-loop
 check-step-requires c κs =
-    let s = c .before .before .before .before in
-    (s .pre .1, record { placed = s .pre .0; below = search needs; value = c .step .ensures })
+    let s = c .before .before in
+    let pre = s .before .before .before .before .pre in
+    (pre .1, record { placed = pre .0; below = search needs; value = s .step .ensures })
+
+cast-place : tie.Need-cast-place Inv-loop μ-loop
+cast-place c =
+    let i = c .before .before .before .before .before .before .before in
+    omega (arith, i .loop-test .taken, i .before .loop .inv .0 .1)
 
 returns : tie.Need-returns Inv-loop μ-loop
-returns c =
+returns c g stands =
     let r = c .before .before .before in
-    let i = r .before .before in
-    let inv = i .before .loop .inv in
-    let n = placed-steps _ _ (i .before .before .before .pre .0) in
-    let l = i .loop-test .taken in
-    step-refused _ _ _ (omega (arith, n, l, inv .0 .0)) (inv .1 .0) (c .before .number .given .1) (r .check-step .ensures)
+    let s = r .before .before .before in
+    let i = s .before .before in
+    let start = i .before .before in
+    let n = placed-steps _ _ (start .pre .0) in
+    refused-as g _ _ (start .args .rules .now) stands (omega (arith, n, s .before .loop-test .taken)) (s .step .ensures) (search needs) (r .check-step .ensures)
+    _ (i .loop .inv .1 g stands .0) (c .before .number .given .1)
 
 loop-again : tie.Need-loop-again Inv-loop μ-loop
-unfolding judgementAt stepOf
 loop-again c =
     let r = c .before .before in
-    let i = r .before .before in
-    let inv = i .before .loop .inv in
-    let n = placed-steps _ _ (i .before .before .before .pre .0) in
-    let l = i .loop-test .taken in
-    let passed = c .enum-told .given .1 in
-    let said = ap (λ (x : code.Step). x .judgement) (r .before .step .ensures) in (
-      (inv .0 .0, search needs),
-      (
-        step-passed _ _ (omega (arith, n, l, inv .0 .0)) (inv .1 .0) passed (r .check-step .ensures),
-        step-kept _ _ passed (r .check-step .ensures) said,
-      ),
+    let s = r .before .before .before in
+    let i = s .before .before in
+    let start = i .before .before in
+    let n = placed-steps _ _ (start .pre .0) in
+    let count = i .loop .inv .0 in (
+      (count .0, count .1, search needs),
+      λ g stands.
+          passed-as g _ _ (start .args .rules .now) stands (omega (arith, n, s .before .loop-test .taken)) (s .step .ensures) (search needs) (r .check-step .ensures)
+          (i .loop .inv .1 g stands .0) (c .enum-told .given .1),
     )
 
 returns-2 : tie.Need-returns-2 Inv-loop μ-loop
-returns-2 c =
-    let i = c .before in
-    let inv = i .before .loop .inv in
-    let n = placed-steps _ _ (i .before .before .before .pre .0) in
-    steps-passed _ _ _ n (inv .0 .0) (inv .0 .1) (search needs) (inv .1 .0) (inv .1 .1) (c .last-step .ensures)
+returns-2 c g stands =
+    let i = c .before .before in
+    let n = placed-steps _ _ (i .before .before .pre .0) in
+    let inv = i .loop .inv in
+    let kept = inv .1 g stands in
+    all-as g _ _ _ n (inv .0 .0) (inv .0 .2) (search needs) (kept .0) (kept .1) (c .last-step .ensures)
 
 pub check-steps-spec : {M : Type 1} → statement M
 check-steps-spec =
     tie.close (tie.spec
-    Inv-loop μ-loop loop-holds (λ c κs. search needs) check-step-requires (λ c. search needs) (λ c. search needs) (λ c. search needs)
-    returns (λ c. search needs) (λ c. search needs) loop-again (λ c. search needs) (λ c. search needs) (λ c κs. search needs) returns-2)
+    Inv-loop μ-loop loop-holds (λ c κs. search needs) (λ c. search needs) (λ c. search needs) check-step-requires (λ c. search needs)
+    (λ c. search needs) cast-place returns (λ c. search needs) (λ c. search needs) loop-again (λ c. search needs)
+    (λ c. search needs) (λ c κs. search needs) returns-2)

@@ -1,0 +1,30 @@
+-- `check_by` meets its contract: a file that is not read is refused as the layout check says, and one that is read by its steps.
+-- Assumes nothing.
+use mathlib.Core.Path.{_∙_}
+use borrow.Author.Needs.{needs}
+use Rattle.certificate.proofs.OutlineKnown.{lawful-placed, refused-read}
+use Rattle.verifier.proofs.CheckLaws.{read-reply, unread-reply}
+use Rattle.verifier.proofs.check_by.Statement.{statement}
+use Rattle.verifier.proofs.check_by.Tie as tie
+
+index-of-requires : tie.Need-index-of-requires
+index-of-requires c κs = let a = c .before in lawful-placed _ (a .before .before .read-layout .ensures) _ (a .at .given .1)
+
+check-steps-requires : tie.Need-check-steps-requires
+check-steps-requires c κs =
+    let a = c .before .before .before in
+    (lawful-placed _ (a .before .before .read-layout .ensures) _ (a .at .given .1), c .before .index-of .ensures)
+
+returns : tie.Need-returns
+returns c g stands =
+    unread-reply g _ _ _ (refused-read _ (c .before .before .before .read-layout .ensures) _ _ (c .before .number .given .1))
+
+returns-2 : tie.Need-returns-2
+returns-2 c g stands =
+    let i = c .before .before in
+    c .check-steps .ensures g stands ∙ read-reply g _ (i .index-of .ensures .read)
+
+pub check-by-spec : {M : Type 1} → statement M
+check-by-spec =
+    tie.close (tie.spec
+    (λ c κs. search needs) (λ c. search needs) (λ c. search needs) (λ c. search needs) index-of-requires check-steps-requires returns returns-2)
