@@ -14,8 +14,10 @@ use Rattle.meaning.specs.declared.Reply.the-variants.{Accepted, Refused}
 use Rattle.meaning.specs.declared.Answer.{Answer}
 use Rattle.meaning.specs.declared.Answer.the-variants as answer
 use Rattle.meaning.specs.Reply.{replyOf}
+use Rattle.meaning.specs.Numbering.{replyNumbered}
 use Rattle.meaning.specs.Question.{answerOf}
 use Rattle.meaning.proofs.Points.{an-accepted-file-is-safe, a-refused-file-has-a-number-to-12, a-refused-question-has-its-number}
+use Rattle.meaning.proofs.Points.{a-file-accepted-with-a-list-is-safe, a-refusal-with-a-list-has-its-number}
 use Rattle.link.specs.Code.{refusalCode, codeOf, answerCodeOf}
 
 refusal-above : (r p : ℕ) → 1 ≤ r → 1 < refusalCode r p
@@ -31,9 +33,17 @@ pub safe-by-code : (bytes : List ℕ) {c : ℕ} → c ≡ codeOf (replyOf bytes)
 safe-by-code bytes e z =
     an-accepted-file-is-safe bytes (accepted (replyOf bytes) (λ r p q. a-refused-file-has-a-number-to-12 bytes r p q .0) (sym e ∙ z))
 
-least : {r : ℕ} → ((1 ≤ r) × (r ≤ 7)) ⊎ (r ≡ 13) → 1 ≤ r
-least (inl h) = h .0
-least (inr e) = omega (arith, e)
+-- one of a first few numbers, or one more
+least : {r m n : ℕ} → 1 ≤ n → ((1 ≤ r) × (r ≤ m)) ⊎ (r ≡ n) → 1 ≤ r
+least l (inl h) = h .0
+least l (inr e) = omega (arith, e, l)
+
+pub safe-by-list : (bytes numbers : List ℕ) {c : ℕ} → c ≡ codeOf (replyNumbered bytes numbers) → c ≡ 0
+    → (f : File) × (readFile bytes ≡ found f) × Safe (f .task)
+safe-by-list bytes numbers e z =
+    a-file-accepted-with-a-list-is-safe bytes numbers
+    (accepted (replyNumbered bytes numbers) (λ r p q. least (omega arith) (a-refusal-with-a-list-has-its-number bytes numbers r p q))
+    (sym e ∙ z))
 
 told-in : (x : Answer) → ((r p : ℕ) → x ≡ answer.Refused r p → 1 ≤ r) → answerCodeOf x ≡ 1 → x ≡ answer.In
 unfolding answerCodeOf
@@ -51,5 +61,5 @@ pub told : (bytes : List ℕ) (e s : ℕ) {c : ℕ} → c ≡ answerCodeOf (answ
     → (c ≡ 1 → answerOf bytes e s ≡ answer.In) × (c ≡ 0 → answerOf bytes e s ≡ answer.Out)
 told bytes e s q =
     let h : (r p : ℕ) → answerOf bytes e s ≡ answer.Refused r p
-    → 1 ≤ r = λ r p w. least (a-refused-question-has-its-number bytes e s r p w) in
+    → 1 ≤ r = λ r p w. least (omega arith) (a-refused-question-has-its-number bytes e s r p w) in
     ((λ z. told-in (answerOf bytes e s) h (sym q ∙ z)), (λ z. told-out (answerOf bytes e s) h (sym q ∙ z)))

@@ -5,6 +5,7 @@ use question::ask;
 use verifier::check;
 use verifier::check_numbered;
 ghost use mathlib.Core.Path.{_≡_};
+ghost use Prim.Native.Nat.{min};
 ghost use Rattle.task.specs.Reach.{Safe};
 ghost use Rattle.meaning.specs.Result.{found};
 ghost use Rattle.meaning.specs.File.{File};
@@ -15,17 +16,22 @@ ghost use Rattle.meaning.specs.Numbering.{replyNumbered};
 ghost use Rattle.meaning.specs.Question.{answerOf};
 ghost use Rattle.link.specs.Code.{refusalCode, codeOf, answerCodeOf};
 
-// A refusal as one number: the refusal number above the 32 bits of the place, and for a place that has more than 32 bits the largest
-// that has not.
-fn refusal_code(number: u8, place: u64) -> u64
-    ensures { λ r. ⌜ r ≡ refusalCode number place ⌝ }
+// A place as 32 bits hold it.
+fn place_of(place: u64) -> u64
+    ensures { λ r. ⌜ r ≡ min place 4294967295 ⌝ }
 {
-    let low = if place < 4294967295 {
+    if place < 4294967295 {
         place
     } else {
         4294967295
-    };
-    number as u64 * 4294967296 + low
+    }
+}
+
+// A refusal as one number: the refusal number above the 32 bits of the place.
+fn refusal_code(number: u8, place: u64) -> u64
+    ensures { λ r. ⌜ r ≡ refusalCode number place ⌝ }
+{
+    number as u64 * 4294967296 + place_of(place)
 }
 
 // Whether a file's certificate shows that its task is safe: 0 where it does, else the refusal.

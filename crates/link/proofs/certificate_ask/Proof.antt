@@ -34,6 +34,7 @@ certificate-ask-spec =
     (λ c. search needs)
     (λ c. search needs)
     (λ c. search needs)
+    (λ c. search needs)
     (λ c κs. search needs)
     returns
     returns-2

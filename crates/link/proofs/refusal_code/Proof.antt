@@ -7,4 +7,4 @@ use Rattle.link.proofs.refusal_code.Tie as tie
 
 pub refusal-code-spec : {M : Type 1} → statement M
 unfolding refusalCode
-refusal-code-spec = tie.close (tie.spec (λ c. search needs) (λ c. search needs) (λ c. search needs))
+refusal-code-spec = tie.close (tie.spec (λ c. search needs) (λ c κs. search needs) (λ c. search needs) (λ c. search needs))
