@@ -40,6 +40,8 @@ pub enum Item {
 #[derive(Clone, Copy, Debug, PartialEq, Eq)]
 pub enum StepCause {
     UnknownRule,
+    /// The number that stands in the file, where the caller's list lacks it.
+    NotListed(u8),
     JudgementKind,
     EntryOutside(u8),
     PremiseNotEarlier(u8),

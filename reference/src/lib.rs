@@ -1,5 +1,5 @@
 //! An independent checker of unsolvability certificates for planning tasks, written
-//! from document 01 alone. It decides the same replies as the proved checker by its own
+//! from the documents alone. It decides the same replies as the proved checker by its own
 //! algorithms, so that a disagreement between the two means something.
 
 pub mod assemble;
@@ -16,6 +16,7 @@ pub mod generate;
 pub mod layout;
 pub mod named;
 pub mod names;
+pub mod numbering;
 pub mod pattern;
 pub mod question;
 pub mod rules;
@@ -27,11 +28,18 @@ pub mod words;
 
 use std::fmt;
 
+use fault::Fault;
+pub use numbering::check_numbered;
+
 /// What the checker returns.
 #[derive(Clone, Copy, Debug, PartialEq, Eq, Hash)]
 pub enum Reply {
     Accepted,
-    Refused { number: u8, place: u32 },
+    /// The place is a byte of the file or a step; for 18 a byte of the list, or its length, which has no limit.
+    Refused {
+        number: u8,
+        place: u64,
+    },
 }
 
 /// What the question returns.
@@ -44,10 +52,7 @@ pub enum Answer {
 
 /// Checks a file: task and certificate together.
 pub fn check(bytes: &[u8]) -> Reply {
-    match layout::read(bytes).and_then(|file| steps::check(&file)) {
-        Ok(()) => Reply::Accepted,
-        Err(fault) => Reply::Refused { number: fault.number, place: fault.place },
-    }
+    layout::read(bytes).and_then(|file| steps::check(&file)).into()
 }
 
 /// Asks whether a state is in a state set of the file.
@@ -59,6 +64,15 @@ pub fn ask(bytes: &[u8], entry: u64, state: u64) -> Answer {
             Some(true) => Answer::In,
             Some(false) => Answer::Out,
         },
+    }
+}
+
+impl From<Result<(), Fault>> for Reply {
+    fn from(checked: Result<(), Fault>) -> Reply {
+        match checked {
+            Ok(()) => Reply::Accepted,
+            Err(fault) => Reply::Refused { number: fault.number, place: fault.place.into() },
+        }
     }
 }
 

@@ -1,20 +1,24 @@
-//! The command line: check and ask, seeded cases and their replies, the text form with names, and graphs.
+//! The command line: check and ask, seeded cases and their replies, the text form with names, graphs, and a caller's
+//! own rule numbers.
 
 use std::io::{self, BufWriter, Read, Write};
 use std::process::ExitCode;
 
 use reference::draw::{draw, Graph};
 use reference::generate::limits::workload;
+use reference::generate::numbered::numbered;
 use reference::generate::random::Random;
 use reference::generate::{cases, damaged, Case};
 use reference::names::Names;
-use reference::{ask, assemble, check, cost, explain, named, show};
+use reference::{ask, assemble, check, check_numbered, cost, explain, named, numbering, show, Reply};
 
-const USAGE: &str = "usage: reference check FILE | ask FILE ENTRY STATE | gen SEED COUNT | damaged FILE SEED COUNT | replies | records | \
-assemble TEXTFILE | names TEXTFILE | show FILE [NAMES] | explain FILE [NAMES] | draw FILE [table|steps] [NAMES] | cost FILE | \
-workload NUMBER SEED   (FILE may be - for standard input)";
+const USAGE: &str = "usage: reference check [--numbers LIST] FILE | ask FILE ENTRY STATE | gen SEED COUNT | numbered SEED COUNT | \
+damaged FILE SEED COUNT | replies | records | assemble TEXTFILE | names TEXTFILE | show [--numbers LIST] FILE [NAMES] | \
+explain [--numbers LIST] FILE [NAMES] | draw FILE [table|steps] [NAMES] | cost FILE | renumber LIST FILE | workload NUMBER SEED   \
+(FILE may be - for standard input; LIST is numbers with commas or spaces between, or a file of bytes)";
 
-const EXPLAIN_USAGE: &str = "usage: explain FILE [NAMES]   (FILE may be - for standard input)";
+const EXPLAIN_USAGE: &str =
+    "usage: explain [--numbers LIST] FILE [NAMES]   (FILE may be - for standard input)";
 
 /// What stops a command: a wrong call, or a message.
 enum Stop {
@@ -51,16 +55,15 @@ fn main() -> ExitCode {
 /// Prints an explanation: status 0 for an accepted file, 1 for a refused one.
 fn explain_file(words: &[&str]) -> Result<ExitCode, Stop> {
     let mut out = BufWriter::new(io::stdout().lock());
-    let (bytes, names) = match words {
-        ["-h" | "--help"] => {
-            writeln!(out, "{EXPLAIN_USAGE}")?;
-            return Ok(ExitCode::SUCCESS);
-        }
-        [file] => read_named(file, None)?,
-        [file, names] => read_named(file, Some(names))?,
-        _ => return Err(Stop::Usage),
+    if let ["-h" | "--help"] = words {
+        writeln!(out, "{EXPLAIN_USAGE}")?;
+        return Ok(ExitCode::SUCCESS);
+    }
+    let (numbers, bytes, names) = read_all(words)?;
+    let text = match numbers {
+        None => explain::explain(&bytes, &names),
+        Some(numbers) => explain::explain_numbered(&bytes, &numbers, &names),
     };
-    let text = explain::explain(&bytes, &names);
     out.write_all(text.as_bytes())?;
     out.flush()?;
     let accepted = text.lines().next() == Some("accepted");
@@ -80,20 +83,15 @@ fn run(words: &[&str]) -> Result<(), Stop> {
     let mut out = BufWriter::new(io::stdout().lock());
     match words {
         ["-h" | "--help"] => writeln!(out, "{USAGE}")?,
-        ["check", file] => writeln!(out, "{}", check(&read(file)?))?,
+        ["check", rest @ ..] => writeln!(out, "{}", checked(rest)?)?,
         ["ask", file, entry, state] => {
             let (entry, state) = (number(entry)?, number(state)?);
             writeln!(out, "{}", ask(&read(file)?, entry, state))?;
         }
-        ["gen", seed, count] => {
-            for case in cases(number(seed)?, number(count)?) {
-                writeln!(out, "{}", case.line())?;
-            }
-        }
+        ["gen", seed, count] => write_lines(&mut out, cases(number(seed)?, number(count)?))?,
+        ["numbered", seed, count] => write_lines(&mut out, numbered(number(seed)?, number(count)?))?,
         ["damaged", file, seed, count] => {
-            for case in damaged(&read(file)?, number(seed)?, number(count)?) {
-                writeln!(out, "{}", case.line())?;
-            }
+            write_lines(&mut out, damaged(&read(file)?, number(seed)?, number(count)?))?;
         }
         ["replies"] => {
             for case in lines() {
@@ -112,24 +110,13 @@ fn run(words: &[&str]) -> Result<(), Stop> {
             let (_, names) = assemble::parse_named(&read_text(file)?).map_err(Stop::Message)?;
             write!(out, "{names}")?;
         }
-        ["show", file, rest @ ..] if rest.len() < 2 => {
-            let (bytes, names) = read_named(file, rest.first())?;
-            out.write_all(show::show_named(&bytes, &names).as_bytes())?;
-        }
+        ["show", rest @ ..] => out.write_all(shown(rest)?.as_bytes())?,
         ["draw", file, rest @ ..] => out.write_all(drawn(file, rest)?.as_bytes())?,
-        ["cost", file] => match cost::of(&read(file)?) {
-            Err(fault) => writeln!(out, "refused {} {}", fault.number, fault.place)?,
-            Ok(costs) => {
-                writeln!(
-                    out,
-                    "at most {} looks at clauses",
-                    costs.iter().map(|cost| cost.looks).sum::<u64>()
-                )?;
-                if let Some(most) = costs.iter().max_by_key(|cost| cost.looks) {
-                    writeln!(out, "step {}: at most {}", most.step, most.looks)?;
-                }
-            }
-        },
+        ["cost", file] => write_cost(&mut out, &read(file)?)?,
+        ["renumber", list, file] => {
+            let numbers = read_list(list)?;
+            out.write_all(&numbering::renumber(&read(file)?, &numbers).map_err(Stop::Message)?)?;
+        }
         ["workload", which, seed] => {
             let which = number(which)?;
             if !(1..=4).contains(&which) {
@@ -142,6 +129,63 @@ fn run(words: &[&str]) -> Result<(), Stop> {
     }
     out.flush()?;
     Ok(())
+}
+
+/// The cases in their line form.
+fn write_lines(out: &mut impl Write, cases: impl Iterator<Item = Case>) -> io::Result<()> {
+    cases.map(|case| case.line()).try_for_each(|line| writeln!(out, "{line}"))
+}
+
+/// At most how many looks at clauses a file takes, and its dearest step.
+fn write_cost(out: &mut impl Write, bytes: &[u8]) -> io::Result<()> {
+    let costs = match cost::of(bytes) {
+        Ok(costs) => costs,
+        Err(fault) => return writeln!(out, "refused {} {}", fault.number, fault.place),
+    };
+    writeln!(out, "at most {} looks at clauses", costs.iter().map(|cost| cost.looks).sum::<u64>())?;
+    match costs.iter().max_by_key(|cost| cost.looks) {
+        Some(most) => writeln!(out, "step {}: at most {}", most.step, most.looks),
+        None => Ok(()),
+    }
+}
+
+/// The reply for the arguments `[--numbers LIST] FILE`.
+fn checked(words: &[&str]) -> Result<Reply, Stop> {
+    match with_list(words)? {
+        (None, [file]) => Ok(check(&read(file)?)),
+        (Some(numbers), [file]) => Ok(check_numbered(&read(file)?, &numbers)),
+        _ => Err(Stop::Usage),
+    }
+}
+
+/// The text form for the arguments `[--numbers LIST] FILE [NAMES]`.
+fn shown(words: &[&str]) -> Result<String, Stop> {
+    let (numbers, bytes, names) = read_all(words)?;
+    Ok(match numbers {
+        None => show::show_named(&bytes, &names),
+        Some(numbers) => show::show_numbered(&bytes, &numbers, &names),
+    })
+}
+
+/// A list where the arguments begin with `--numbers LIST`, and the other arguments.
+fn with_list<'a>(words: &'a [&'a str]) -> Result<(Option<Vec<u8>>, &'a [&'a str]), Stop> {
+    match words {
+        ["--numbers", list, rest @ ..] => Ok((Some(read_list(list)?), rest)),
+        ["--numbers"] => Err(Stop::Usage),
+        _ => Ok((None, words)),
+    }
+}
+
+/// A word of digits, commas and spaces is a list itself; any other names a file that holds its bytes.
+fn read_list(word: &str) -> Result<Vec<u8>, Stop> {
+    match word {
+        "-" => Err(Stop::Message("a list does not come from standard input".into())),
+        _ if word.bytes().all(|byte| byte.is_ascii_digit() || b", ".contains(&byte)) => {
+            let none = || Stop::Message(format!("'{word}' is no list of numbers from 0 to 255"));
+            numbering::parse(word).ok_or_else(none)
+        }
+        _ => read(word),
+    }
 }
 
 /// A number, decimal or hexadecimal.
@@ -164,6 +208,17 @@ fn read(file: &str) -> Result<Vec<u8>, Stop> {
 
 fn read_text(file: &str) -> Result<String, Stop> {
     String::from_utf8(read(file)?).map_err(|_| Stop::Message("the text is not UTF-8".into()))
+}
+
+/// The list, the bytes and the names for the arguments `[--numbers LIST] FILE [NAMES]`.
+fn read_all(words: &[&str]) -> Result<(Option<Vec<u8>>, Vec<u8>, Names), Stop> {
+    let (numbers, rest) = with_list(words)?;
+    let (bytes, names) = match rest {
+        [file] => read_named(file, None)?,
+        [file, names] => read_named(file, Some(names))?,
+        _ => return Err(Stop::Usage),
+    };
+    Ok((numbers, bytes, names))
 }
 
 /// A file's bytes, of a text too, and the names that belong to it.

@@ -5,9 +5,10 @@ use std::fmt::Write;
 use crate::draft::{Draft, DraftActions, DraftSet};
 use crate::file::{Clause, Step};
 use crate::names::Names;
+use crate::numbering::{check_steps, Lacked, Numbering};
 use crate::task::Action;
-use crate::words::describe;
-use crate::{layout, rules, steps};
+use crate::words::{describe, list_words};
+use crate::{layout, rules};
 
 /// The most states of an explicit set that are written as lists of facts, where facts have names.
 const MOST_LISTED: usize = 8;
@@ -23,15 +24,28 @@ pub fn show(bytes: &[u8]) -> String {
 
 /// The same with names for facts and actions.
 pub fn show_named(bytes: &[u8], names: &Names) -> String {
-    let file = match layout::read(bytes) {
+    shown(bytes, None, names)
+}
+
+/// The same of a file with a caller's rule numbers: its steps have the rules meant.
+pub fn show_numbered(bytes: &[u8], numbers: &[u8], names: &Names) -> String {
+    match Numbering::of(numbers) {
+        Ok(numbering) => shown(bytes, Some(&numbering), names),
+        Err(fault) => format!("# {}: {}\n", fault.reply(), list_words(&fault)),
+    }
+}
+
+fn shown(bytes: &[u8], numbering: Option<&Numbering>, names: &Names) -> String {
+    let mut file = match layout::read(bytes) {
         Ok(file) => file,
         Err(fault) => return format!("# {}\n", describe(&fault, None)),
     };
-    let reply = match steps::check(&file) {
+    let lacked = numbering.map_or(Lacked::new(), |numbering| numbering.rewrite(&mut file));
+    let reply = match check_steps(&file, &lacked) {
         Ok(()) => "accepted".to_string(),
         Err(fault) => describe(&fault, file.steps.get(fault.place as usize)),
     };
-    format!("# {reply}\n{}", text_named(&Draft::of(&file), names))
+    format!("# {reply}\n{}", whole_text(&Draft::of(&file), &lacked, names))
 }
 
 /// The text of a draft.
@@ -41,10 +55,14 @@ pub fn text(draft: &Draft) -> String {
 
 /// The same with names for facts and actions.
 pub fn text_named(draft: &Draft, names: &Names) -> String {
+    whole_text(draft, &Lacked::new(), names)
+}
+
+fn whole_text(draft: &Draft, lacked: &Lacked, names: &Names) -> String {
     let mut out = String::new();
     // Writing to a string cannot fail.
     let _ = write_task(&mut out, draft, names);
-    let _ = write_certificate(&mut out, draft, names);
+    let _ = write_certificate(&mut out, draft, lacked, names);
     out
 }
 
@@ -61,7 +79,7 @@ fn write_task(out: &mut String, draft: &Draft, names: &Names) -> std::fmt::Resul
     Ok(())
 }
 
-fn write_certificate(out: &mut String, draft: &Draft, names: &Names) -> std::fmt::Result {
+fn write_certificate(out: &mut String, draft: &Draft, lacked: &Lacked, names: &Names) -> std::fmt::Result {
     for (e, set) in draft.action_sets.iter().enumerate() {
         writeln!(out, "actions {e} {}", action_set(set, names, ALL))?;
     }
@@ -69,7 +87,7 @@ fn write_certificate(out: &mut String, draft: &Draft, names: &Names) -> std::fmt
         writeln!(out, "set {e} {}", state_set(set, names, ALL))?;
     }
     for (s, step) in draft.steps.iter().enumerate() {
-        writeln!(out, "step {s} {}", step_text(step))?;
+        writeln!(out, "{}", step_line(s, step, lacked))?;
     }
     Ok(())
 }
@@ -178,6 +196,13 @@ pub fn clause(clause: &Clause, names: &Names) -> String {
     let positive = facts(clause.positive).map(|f| format!("+{}", names.fact(f)));
     let negative = facts(clause.negative).map(|f| format!("-{}", names.fact(f)));
     format!("({})", joined(positive.chain(negative)))
+}
+
+/// A step with its number. One whose number the list lacks has rule 0, so that its text is no rule's either, and a
+/// comment says what the file has.
+pub fn step_line(number: usize, step: &Step, lacked: &Lacked) -> String {
+    let there = lacked.get(&number).map(|there| format!("  # the file has {there}, which the list lacks"));
+    format!("step {number} {}{}", step_text(step), there.unwrap_or_default())
 }
 
 /// Rule name, judgement and premises, and the rule's number and text as a comment; a

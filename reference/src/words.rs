@@ -2,7 +2,8 @@
 
 use crate::fault::{Cause, Fault, Group, Item, StepCause};
 use crate::file::Step;
-use crate::rules;
+use crate::numbering::ListFault;
+use crate::rules::{self, RULES};
 
 /// One line such as "refused 9 at step 4: rule PG, premise 1 does not match S[T]<S+U".
 /// `step` is the refused step, where the layout was lawful.
@@ -15,6 +16,21 @@ pub fn describe(fault: &Fault, step: Option<&Step>) -> String {
         Cause::Step(cause) => {
             let rule = step.map_or(String::new(), rule_name);
             format!("refused {number} at step {place}: {rule}{}", step_words(*cause, step))
+        }
+    }
+}
+
+/// What is wrong with a list of rule numbers: which byte, and where its number was used before.
+pub fn list_words(fault: &ListFault) -> String {
+    let rule = |at: usize| format!("rule {} ({})", at + 1, RULES[at].name);
+    match *fault {
+        ListFault::Length(length) => format!("the list's length is {length}, not {}", RULES.len()),
+        ListFault::Zero { at } => {
+            format!("byte {at} of the list, for {}, is 0; numbers are 1 to 255", rule(at))
+        }
+        ListFault::Repeated { at, earlier, number } => {
+            let used = format!("which byte {earlier} uses for {}", rule(earlier));
+            format!("byte {at} of the list, for {}, is {number}, {used}", rule(at))
         }
     }
 }
@@ -67,6 +83,7 @@ fn name(item: Item) -> String {
 fn step_words(cause: StepCause, step: Option<&Step>) -> String {
     match cause {
         StepCause::UnknownRule => "there is no such rule".into(),
+        StepCause::NotListed(number) => format!("the list lacks the rule number {number}"),
         StepCause::JudgementKind => "the judgement kind is not the rule's".into(),
         StepCause::EntryOutside(k) => format!("entry {k} is not in the file"),
         StepCause::PremiseNotEarlier(k) => format!("premise {k} is not an earlier step"),

@@ -2,7 +2,7 @@
 
 mod common;
 
-use common::program::{printed, run, sample};
+use common::program::{printed, run, sample, stopped};
 
 #[test]
 fn check_and_ask() {
@@ -12,6 +12,35 @@ fn check_and_ask() {
     assert_eq!(printed(&["ask", &cert, "3", "2"], b""), "in\n");
     assert_eq!(printed(&["ask", &cert, "3", "0x3"], b""), "out\n");
     assert_eq!(printed(&["ask", &cert, "4", "0"], b""), "refused 13 0\n");
+}
+
+/// A list as numbers or as a file of bytes, for each command that takes one.
+#[test]
+fn a_callers_own_rule_numbers() {
+    let (plain, own, file) = (sample("sample.cert"), sample("numbered.cert"), sample("numbered.list"));
+    let written = (101..=128).rev().map(|number| number.to_string()).collect::<Vec<_>>();
+    for list in [&written.join(","), &written.join(" "), &format!(" {} ", written.join(" ,  ")), &file] {
+        assert_eq!(printed(&["check", "--numbers", list, &own], b""), "accepted\n", "{list}");
+        assert_eq!(run(&["renumber", list, &plain], b"").stdout, std::fs::read(&own).expect("a sample"));
+        let shown = printed(&["show", "--numbers", list, &own], b"");
+        assert_eq!(shown, printed(&["show", "-"], &std::fs::read(&plain).expect("the sample")));
+        let named = printed(&["show", "--numbers", list, &own, &sample("sample.names")], b"");
+        assert_eq!(named, printed(&["show", &plain], b""));
+        let told = printed_by(&["explain", "--numbers", list, "-"], &std::fs::read(&plain).expect("it"), 1);
+        assert!(told.starts_with("refused 8 0\n"), "{told}");
+        assert_eq!(printed_by(&["explain", "--numbers", list, &own], b"", 0).find("accepted\n"), Some(0));
+    }
+    assert_eq!(printed(&["check", &own], b""), "refused 8 0\n");
+    for (list, reply) in [("", "refused 18 0\n"), ("007", "refused 18 1\n"), (&plain, "refused 18 234\n")] {
+        assert_eq!(printed(&["check", "--numbers", list, "-"], b""), reply);
+        assert_eq!(printed_by(&["explain", "--numbers", list, "-"], b"", 1).find(reply), Some(0));
+    }
+    for list in ["1,,2", ",1", "1,", ",", "256", "1 1000", "-", "no-such-file", "+1"] {
+        assert_eq!(stopped(&["check", "--numbers", list, &own], b"").0, Some(1), "{list}");
+        assert_eq!(stopped(&["renumber", list, &plain], b"").0, Some(1), "{list}");
+    }
+    let refused = stopped(&["renumber", &file, &own], b"");
+    assert_eq!(refused, (Some(1), "reference: step 0 has the rule byte 123; rules are 1 to 28\n".into()));
 }
 
 #[test]
@@ -44,17 +73,26 @@ fn cases_and_their_replies() {
     assert_eq!(replies.lines().count(), 60);
     let form = |reply: &str| ["accepted", "in", "out"].contains(&reply) || reply.starts_with("refused ");
     assert!(replies.lines().all(form), "{replies}");
-    assert_eq!(printed(&["replies"], b"check \nask 0 0 00\n"), "refused 1 0\nrefused 1 0\n");
+    let empty = b"check \nask 0 0 00\nnumbered - 00\nnumbered 0102\n";
+    assert_eq!(printed(&["replies"], empty), "refused 1 0\nrefused 1 0\nrefused 18 0\nrefused 18 2\n");
+    assert_eq!(printed(&["numbered", "4", "60"], b"").lines().count(), 60);
     assert_eq!(run(&["replies"], b"nonsense\n").status.code(), Some(1));
 }
 
 #[test]
 fn wrong_calls_print_the_usage_and_end_with_2() {
     let cert = sample("sample.cert");
-    let wrong: [&[&str]; 9] = [
+    let wrong: [&[&str]; 16] = [
         &[],
         &["check"],
         &["check", &cert, "more"],
+        &["check", "--numbers"],
+        &["check", "--numbers", "1"],
+        &["check", "--numbers", "1", &cert, "more"],
+        &["show", "--numbers", "1"],
+        &["ask", "--numbers", "1", &cert, "3", "2"],
+        &["renumber", &cert],
+        &["numbered", "1"],
         &["ask", &cert, "x", "0"],
         &["ask", &cert, "-1", "0"],
         &["gen", "1"],
@@ -88,14 +126,13 @@ fn explanations_and_their_status() {
     for help in ["-h", "--help"] {
         let output = run(&["explain", help], b"");
         assert_eq!((output.status.code(), output.stderr.len()), (Some(0), 0));
-        assert!(
-            output.stdout.starts_with(b"usage: explain FILE [NAMES] ") && output.stdout.ends_with(b")\n")
-        );
+        let usage = b"usage: explain [--numbers LIST] FILE [NAMES] ";
+        assert!(output.stdout.starts_with(usage) && output.stdout.ends_with(b")\n"), "{output:?}");
     }
-    for wrong in [&["explain"][..], &["explain", "a", "b", "c"]] {
+    for wrong in [&["explain"][..], &["explain", "a", "b", "c"], &["explain", "--numbers", "1"]] {
         let output = run(wrong, b"");
         assert_eq!((output.status.code(), output.stdout.len()), (Some(2), 0));
-        assert!(output.stderr.starts_with(b"usage: explain FILE [NAMES] "), "{output:?}");
+        assert!(output.stderr.starts_with(b"usage: explain [--numbers LIST] FILE [NAMES] "), "{output:?}");
     }
     for missing in [&["explain", "no-such-file"][..], &["explain", &sample("sample.cert"), "no-such-file"]] {
         let output = run(missing, b"");

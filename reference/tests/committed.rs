@@ -4,7 +4,7 @@
 use std::collections::BTreeSet;
 use std::path::PathBuf;
 
-use reference::generate::Case;
+use reference::generate::{Call, Case};
 use reference::layout;
 use reference::steps::check_step;
 
@@ -20,9 +20,15 @@ fn cases(mut records: &[u8]) -> Vec<Case> {
     while !records.is_empty() {
         let (head, rest) = records.split_at(21);
         let length = u32::from_be_bytes([head[17], head[18], head[19], head[20]]) as usize;
+        let (first, second) = (word(&head[1..9]), word(&head[9..17]));
+        let (numbers, rest) = rest.split_at(if head[0] == 2 { first as usize } else { 0 });
         let (bytes, rest) = rest.split_at(length);
-        let question = (head[0] == 1).then_some((word(&head[1..9]), word(&head[9..17])));
-        list.push(Case { question, bytes: bytes.to_vec() });
+        let call = match head[0] {
+            0 => Call::Check,
+            1 => Call::Ask(first, second),
+            _ => Call::Numbered(numbers.to_vec()),
+        };
+        list.push(Case { call, bytes: bytes.to_vec() });
         assert!(records.starts_with(&list[list.len() - 1].record()));
         records = rest;
     }

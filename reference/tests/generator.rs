@@ -6,7 +6,8 @@ use std::collections::BTreeMap;
 
 use common::kind;
 use reference::draft::{Draft, DraftActions};
-use reference::generate::{cases, Case};
+use reference::generate::numbered::numbered;
+use reference::generate::{cases, Call, Case};
 use reference::layout;
 use reference::steps::check_step;
 
@@ -31,7 +32,7 @@ fn summary(seed: u64, count: u64) -> Summary {
         let reply = case.reply();
         *summary.replies.entry(number(&reply)).or_default() += 1;
         let Ok(file) = layout::read(&case.bytes) else { continue };
-        if case.question.is_some() {
+        if !case.is_check() {
             continue;
         }
         for (k, step) in file.steps.iter().enumerate() {
@@ -111,13 +112,37 @@ const PINNED: u64 = 0x356F_DC59_DF30_15FA;
 
 #[test]
 fn the_line_form_reads_back() {
-    for case in cases(9, 500) {
+    for case in cases(9, 500).chain(numbered(9, 200)) {
         assert_eq!(Case::parse(&case.line()), Some(case));
     }
-    let empty = Case { question: None, bytes: Vec::new() };
+    let empty = Case { call: Call::Check, bytes: Vec::new() };
     assert_eq!(empty.line(), "check ");
     assert_eq!(Case::parse("check"), Some(empty));
-    for line in ["", "check 0", "check 0g", "ask 1", "tell 00", "check 00 00", "ask -1 0 00"] {
+    let listless = Case { call: Call::Numbered(Vec::new()), bytes: vec![1] };
+    assert_eq!(listless.line(), "numbered - 01");
+    for line in [
+        "",
+        "check 0",
+        "check 0g",
+        "ask 1",
+        "tell 00",
+        "check 00 00",
+        "ask -1 0 00",
+        "numbered",
+        "numbered 0 00",
+    ] {
         assert_eq!(Case::parse(line), None, "'{line}'");
     }
+}
+
+/// The list stands before the file, its length where a question has the entry.
+#[test]
+fn the_record_form() {
+    let head = |kind: u8, first: u8, second: u8, length: u8| {
+        [&[kind, 0, 0, 0, 0, 0, 0, 0, first, 0, 0, 0, 0, 0, 0, 0, second, 0, 0, 0], &[length][..]].concat()
+    };
+    let record = |call| Case { call, bytes: vec![7, 8] }.record();
+    assert_eq!(record(Call::Check), [head(0, 0, 0, 2), vec![7, 8]].concat());
+    assert_eq!(record(Call::Ask(3, 4)), [head(1, 3, 4, 2), vec![7, 8]].concat());
+    assert_eq!(record(Call::Numbered(vec![5, 0, 6])), [head(2, 3, 0, 2), vec![5, 0, 6, 7, 8]].concat());
 }

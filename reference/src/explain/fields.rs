@@ -12,10 +12,11 @@ pub enum Place {
     Premise(u8),
 }
 
-/// A condition that does not hold.
+/// A condition that does not hold. A number that is not listed is the file's own, which the caller's list lacks.
 #[derive(Clone, Copy, Debug, PartialEq, Eq)]
 pub enum FieldFault {
     UnknownRule { rule: u8 },
+    NotListed { number: u8 },
     JudgementKind { rule: &'static Rule, kind: u8 },
     EntryOutside { place: Place, entry: u16, entries: usize },
     PremiseNotEarlier { place: Place, premise: u16 },

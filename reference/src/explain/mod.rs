@@ -9,10 +9,12 @@ pub mod pattern;
 pub mod shape;
 mod words;
 
-use crate::fault::{Cause, Fault};
+use crate::fault::{Cause, Fault, StepCause};
 use crate::file::File;
 use crate::names::Names;
-use crate::{steps, Reply};
+use crate::numbering::{check_steps, Lacked, ListFault, Numbering};
+use crate::words::list_words;
+use crate::Reply;
 use accepted::Argument;
 use counterexample::Counterexample;
 use fields::FieldFault;
@@ -36,6 +38,8 @@ pub enum Why {
     Untrue(Counterexample),
     /// Reply 12.
     NotUnsolvable,
+    /// Reply 18.
+    Numbers(ListFault),
     /// The check refuses a step, and the search for the reason finds none: one of them is wrong.
     Unknown,
 }
@@ -44,45 +48,79 @@ pub enum Why {
 const NOTE: &str =
     "This explanation comes from the reference checker, which is not proved; ./verify gives the proved reply.";
 
+/// What an explanation says of a file with a caller's rule numbers.
+const REWRITTEN: &str =
+    "The file's rule bytes are numbers of the list; here steps have the rules that are meant.";
+
+/// What an explanation says of a list with a fault.
+const UNREAD: &str = "The list of rule numbers is not lawful, and the file is not read:";
+
 /// The reply to a file and the reason for it.
 pub fn why(bytes: &[u8]) -> (Reply, Why) {
-    let (file, fault) = examined(bytes);
-    judged(bytes, &file, fault)
+    Examined::of(bytes, None).judged(bytes)
+}
+
+/// The same for a file with a caller's rule numbers.
+pub fn why_numbered(bytes: &[u8], numbers: &[u8]) -> (Reply, Why) {
+    match Numbering::of(numbers) {
+        Ok(numbering) => Examined::of(bytes, Some(&numbering)).judged(bytes),
+        Err(fault) => (fault.reply(), Why::Numbers(fault)),
+    }
 }
 
 /// The reply to a file, and the reason in words.
 pub fn explain(bytes: &[u8], names: &Names) -> String {
-    let (file, fault) = examined(bytes);
-    let (reply, why) = judged(bytes, &file, fault);
-    let head = vec![reply.to_string(), NOTE.to_string(), String::new()];
-    let lines = [head, words::lines(bytes, &file, reply, &why, names)].concat();
-    lines.join("\n") + "\n"
+    told(bytes, &Examined::of(bytes, None), &[NOTE], names)
 }
 
-/// What was read of a file, and the fault for which it is refused.
-fn examined(bytes: &[u8]) -> (File, Option<Fault>) {
-    match crate::layout::beginning(bytes) {
-        (file, None) => {
-            let fault = steps::check(&file).err();
-            (file, fault)
-        }
-        refused => refused,
+/// The same for a file with a caller's rule numbers.
+pub fn explain_numbered(bytes: &[u8], numbers: &[u8], names: &Names) -> String {
+    match Numbering::of(numbers) {
+        Ok(numbering) => told(bytes, &Examined::of(bytes, Some(&numbering)), &[NOTE, REWRITTEN], names),
+        Err(fault) => page(fault.reply(), &[NOTE], vec![UNREAD.into(), format!("  {}.", list_words(&fault))]),
     }
 }
 
-fn judged(bytes: &[u8], file: &File, fault: Option<Fault>) -> (Reply, Why) {
-    match fault {
-        None => (Reply::Accepted, Why::Accepted(accepted::argument(file))),
-        Some(fault) => {
-            let reply = Reply::Refused { number: fault.number, place: fault.place };
-            (reply, reason(bytes, file, &fault))
-        }
+fn told(bytes: &[u8], examined: &Examined, notes: &[&str], names: &Names) -> String {
+    let (reply, why) = examined.judged(bytes);
+    page(reply, notes, words::lines(bytes, examined, reply, &why, names))
+}
+
+fn page(reply: Reply, notes: &[&str], lines: Vec<String>) -> String {
+    format!("{reply}\n{}\n\n{}\n", notes.join("\n"), lines.join("\n"))
+}
+
+/// What was read of a file, with the rules meant where there is a list, and the fault for which it is refused.
+struct Examined {
+    file: File,
+    lacked: Lacked,
+    fault: Option<Fault>,
+}
+
+impl Examined {
+    fn of(bytes: &[u8], numbering: Option<&Numbering>) -> Examined {
+        let (mut file, fault) = crate::layout::beginning(bytes);
+        let lacked = numbering.map_or(Lacked::new(), |numbering| numbering.rewrite(&mut file));
+        let fault = fault.or_else(|| check_steps(&file, &lacked).err());
+        Examined { file, lacked, fault }
+    }
+
+    fn judged(&self, bytes: &[u8]) -> (Reply, Why) {
+        let why = match &self.fault {
+            None => Why::Accepted(accepted::argument(&self.file)),
+            Some(fault) => reason(bytes, &self.file, fault),
+        };
+        (self.fault.map_or(Ok(()), Err).into(), why)
     }
 }
 
 fn reason(bytes: &[u8], file: &File, fault: &Fault) -> Why {
-    if let Cause::Layout(item) = fault.cause {
-        return Why::Layout(layout::field(bytes, file, fault, item));
+    match fault.cause {
+        Cause::Layout(item) => return Why::Layout(layout::field(bytes, file, fault, item)),
+        Cause::Step(StepCause::NotListed(number)) => {
+            return Why::Fields(vec![FieldFault::NotListed { number }])
+        }
+        Cause::Step(_) => (),
     }
     let number = fault.place as usize;
     let step = &file.steps[number];

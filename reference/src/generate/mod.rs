@@ -7,6 +7,7 @@ pub mod certificates;
 pub mod growth;
 pub mod limits;
 pub mod mutate;
+pub mod numbered;
 pub mod random;
 pub mod tasks;
 pub mod worst;
@@ -14,57 +15,88 @@ pub mod worst;
 use crate::draft::Draft;
 use crate::generate::builder::Builder;
 use crate::generate::random::Random;
-use crate::{ask, check};
+use crate::{ask, check, check_numbered};
 
-/// A file, with a question (entry and state) or to be checked.
+/// What is done with a file.
+#[derive(Clone, Debug, PartialEq, Eq)]
+pub enum Call {
+    Check,
+    /// Its rule bytes are numbers of this list.
+    Numbered(Vec<u8>),
+    /// Whether an entry holds a state.
+    Ask(u64, u64),
+}
+
+/// A file, and what is done with it.
 #[derive(Clone, Debug, PartialEq, Eq)]
 pub struct Case {
-    pub question: Option<(u64, u64)>,
+    pub call: Call,
     pub bytes: Vec<u8>,
 }
 
 impl Case {
-    /// The line form: `check HEX` or `ask ENTRY STATE HEX`.
+    pub fn is_check(&self) -> bool {
+        self.call == Call::Check
+    }
+
+    /// The line form: `check HEX`, `numbered LISTHEX HEX` with `-` for an empty list, or `ask ENTRY STATE HEX`.
     pub fn line(&self) -> String {
-        let hex: String = self.bytes.iter().map(|byte| format!("{byte:02x}")).collect();
-        match self.question {
-            None => format!("check {hex}"),
-            Some((entry, state)) => format!("ask {entry} {state} {hex}"),
+        let hex = to_hex(&self.bytes);
+        match &self.call {
+            Call::Check => format!("check {hex}"),
+            Call::Numbered(list) if list.is_empty() => format!("numbered - {hex}"),
+            Call::Numbered(list) => format!("numbered {} {hex}", to_hex(list)),
+            Call::Ask(entry, state) => format!("ask {entry} {state} {hex}"),
         }
     }
 
     /// Reads the line form; none where it is not of that form.
     pub fn parse(line: &str) -> Option<Case> {
         let mut words = line.split_whitespace();
-        let question = match words.next()? {
-            "check" => None,
-            "ask" => Some((words.next()?.parse().ok()?, words.next()?.parse().ok()?)),
+        let call = match words.next()? {
+            "check" => Call::Check,
+            "numbered" => match words.next()? {
+                "-" => Call::Numbered(Vec::new()),
+                list => Call::Numbered(from_hex(list)?),
+            },
+            "ask" => Call::Ask(words.next()?.parse().ok()?, words.next()?.parse().ok()?),
             _ => return None,
         };
         let bytes = from_hex(words.next().unwrap_or(""))?;
-        words.next().is_none().then_some(Case { question, bytes })
+        words.next().is_none().then_some(Case { call, bytes })
     }
 
-    /// The record form, for programs that read no text: 0 or 1 for a question (1 byte), entry (8), state (8),
-    /// the file's length (4), all big-endian, and the file, of which no more than 65,537 bytes are kept.
+    /// The record form, for programs that read no text: 0, 1 for a question or 2 for a list (1 byte), entry or the list's length (8),
+    /// state or 0 (8), the file's length (4), all big-endian, the list, and the file, of which no more than 65,537 bytes are kept. A
+    /// list is kept whole; `crates/vectors` takes at most 1,024 bytes of one.
     pub fn record(&self) -> Vec<u8> {
-        let (entry, state) = self.question.unwrap_or((0, 0));
         let bytes = &self.bytes[..self.bytes.len().min(65_537)];
-        let mut record = vec![self.question.is_some() as u8];
-        record.extend(entry.to_be_bytes());
-        record.extend(state.to_be_bytes());
+        let (kind, first, second, list) = match &self.call {
+            Call::Check => (0, 0, 0, &[][..]),
+            Call::Ask(entry, state) => (1, *entry, *state, &[][..]),
+            Call::Numbered(list) => (2, list.len() as u64, 0, &list[..]),
+        };
+        let mut record = vec![kind];
+        record.extend(first.to_be_bytes());
+        record.extend(second.to_be_bytes());
         record.extend((bytes.len() as u32).to_be_bytes());
+        record.extend(list);
         record.extend(bytes);
         record
     }
 
     /// The reply as the command line prints it.
     pub fn reply(&self) -> String {
-        match self.question {
-            None => check(&self.bytes).to_string(),
-            Some((entry, state)) => ask(&self.bytes, entry, state).to_string(),
+        match &self.call {
+            Call::Check => check(&self.bytes).to_string(),
+            Call::Numbered(list) => check_numbered(&self.bytes, list).to_string(),
+            Call::Ask(entry, state) => ask(&self.bytes, *entry, *state).to_string(),
         }
     }
+}
+
+fn to_hex(bytes: &[u8]) -> String {
+    bytes.iter().map(|byte| format!("{byte:02x}")).collect()
 }
 
 fn from_hex(text: &str) -> Option<Vec<u8>> {
@@ -90,7 +122,7 @@ pub fn damaged(bytes: &[u8], seed: u64, count: u64) -> impl Iterator<Item = Case
         }
         bytes
     });
-    cut.chain(noise).map(|bytes| Case { question: None, bytes })
+    cut.chain(noise).map(|bytes| Case { call: Call::Check, bytes })
 }
 
 fn case(random: &mut Random) -> Case {
@@ -112,7 +144,7 @@ fn case(random: &mut Random) -> Case {
         197 | 198 => limits::random(random),
         _ => return question_at_limit(random),
     };
-    Case { question: None, bytes }
+    Case { call: Call::Check, bytes }
 }
 
 /// A certificate with some further rule applications and true statements.
@@ -190,7 +222,7 @@ fn question(random: &mut Random) -> Case {
     if random.chance(10) {
         mutate::draft(random, &mut draft);
     }
-    Case { question: Some(asked), bytes: draft.encode() }
+    Case { call: Call::Ask(asked.0, asked.1), bytes: draft.encode() }
 }
 
 /// An entry and a state, now and then outside of what there is.
@@ -216,5 +248,5 @@ fn question_at_limit(random: &mut Random) -> Case {
         1 => limits::many_action_sets(0),
         _ => limits::full_file(0),
     };
-    Case { question: Some((random.below(20) as u64, random.below(4) as u64)), bytes }
+    Case { call: Call::Ask(random.below(20) as u64, random.below(4) as u64), bytes }
 }

@@ -333,12 +333,12 @@ pub fn check(file: &File) -> Reply {
     for number in 0..file.steps.len() {
         let reply = step_reply(file, &meaning, number);
         if reply != 0 {
-            return Reply::Refused { number: reply, place: number as u32 };
+            return Reply::Refused { number: reply, place: number as u64 };
         }
     }
     let last = file.steps.len() - 1;
     match file.steps[last].kind {
         3 => Reply::Accepted,
-        _ => Reply::Refused { number: 12, place: last as u32 },
+        _ => Reply::Refused { number: 12, place: last as u64 },
     }
 }

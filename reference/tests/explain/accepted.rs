@@ -89,7 +89,7 @@ fn is_told(file: &File, argument: &Argument, text: &str) {
 #[test]
 fn arguments_of_generated_files() {
     let (mut rules, mut spare, mut tables): (Tally<u8>, usize, usize) = (Tally::new(), 0, 0);
-    for case in cases(35, 4000).filter(|case| case.question.is_none()) {
+    for case in cases(35, 4000).filter(|case| case.is_check()) {
         let explained = explained(&case.bytes);
         let Why::Accepted(argument) = &explained.why else { continue };
         let file = layout::read(&case.bytes).expect("an accepted file");

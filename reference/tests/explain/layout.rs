@@ -43,7 +43,7 @@ impl Told<'_> {
     }
 
     fn is_refused_so(&self, bytes: &[u8]) -> bool {
-        let place = self.fault.bytes.start as u32;
+        let place = self.fault.bytes.start as u64;
         check(bytes) == Reply::Refused { number: self.fault.number, place }
     }
 
@@ -230,7 +230,7 @@ fn examine(bytes: &[u8], explained: &Explained, seen: &mut (Tally<(u8, String)>,
 #[test]
 fn fields_of_damaged_files() {
     let mut seen = (Tally::new(), Tally::new());
-    let generated = cases(33, 3000).filter(|case| case.question.is_none()).map(|case| case.bytes);
+    let generated = cases(33, 3000).filter(|case| case.is_check()).map(|case| case.bytes);
     let noise = damaged(&sample().encode(), 3, 300).map(|case| case.bytes).collect::<Vec<_>>();
     let mut random = Random::new(34);
     let lists = (0..4000).map(move |_| {

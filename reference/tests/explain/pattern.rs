@@ -259,7 +259,7 @@ fn number(entry: Entry) -> String {
 #[test]
 fn whole_files() {
     let mut seen: Tally<&'static str> = Tally::new();
-    for case in reference::generate::cases(32, 5000).filter(|case| case.question.is_none()) {
+    for case in reference::generate::cases(32, 5000).filter(|case| case.is_check()) {
         let explained = explained(&case.bytes);
         let Why::Pattern(found) = &explained.why else { continue };
         let (part, parts) = told(found);

@@ -287,7 +287,7 @@ fn models_that_only_later_actions_have() {
 #[test]
 fn whole_files() {
     let mut seen: Tally<u8> = Tally::new();
-    for case in cases(31, 4000).filter(|case| case.question.is_none()) {
+    for case in cases(31, 4000).filter(|case| case.is_check()) {
         let Ok(file) = layout::read(&case.bytes) else { continue };
         let explained = explained(&case.bytes);
         let Reply::Refused { number: 8..=12, place } = explained.reply else { continue };

@@ -3,14 +3,15 @@
 
 use crate::draft::{Draft, DraftActions, DraftSet};
 use crate::explain::layout::{entry_place, LayoutFault};
+use crate::explain::Examined;
 use crate::fault::Item;
 use crate::file::{Clause, File};
 use crate::names::Names;
 use crate::show::{self, ALL};
 
-/// The lines of everything before the fault; `file` is what was read before it.
-pub fn lines(bytes: &[u8], file: &File, fault: &LayoutFault, names: &Names) -> Vec<String> {
-    let draft = Draft::of(file);
+/// The lines of everything before the fault, which was read.
+pub fn lines(bytes: &[u8], read: &Examined, fault: &LayoutFault, names: &Names) -> Vec<String> {
+    let draft = Draft::of(&read.file);
     let mut lines = show::head_lines(&draft, names).to_vec();
     lines.truncate(head_items(fault.item));
     lines.extend(draft.actions.iter().enumerate().map(|(a, action)| show::action_line(a, action, names)));
@@ -19,8 +20,8 @@ pub fn lines(bytes: &[u8], file: &File, fault: &LayoutFault, names: &Names) -> V
     let sets = draft.state_sets.iter().enumerate();
     lines.extend(sets.map(|(e, set)| format!("set {e} {}", show::state_set(set, names, ALL))));
     let steps = draft.steps.iter().enumerate();
-    lines.extend(steps.map(|(s, step)| format!("step {s} {}", show::step_text(step))));
-    lines.extend(begun(bytes, file, fault, names).map(|begun| format!("# {begun} ...")));
+    lines.extend(steps.map(|(s, step)| show::step_line(s, step, &read.lacked)));
+    lines.extend(begun(bytes, &read.file, fault, names).map(|begun| format!("# {begun} ...")));
     lines
 }
 

@@ -11,6 +11,11 @@ pub fn words(step: &Step, number: usize, fault: &FieldFault) -> String {
         FieldFault::UnknownRule { rule } => {
             format!("unknown rule: the rule is {rule}; rules are 1 to {}.", rules::RULES.len())
         }
+        FieldFault::NotListed { number } => {
+            format!(
+                "unknown rule: the file has the number {number}, which the list lacks; here it is rule 0."
+            )
+        }
         FieldFault::JudgementKind { rule, kind } => {
             let wanted = JUDGEMENTS[rule.judgement as usize];
             let found = JUDGEMENTS.get(kind as usize).map_or("unknown".into(), |name| format!("\"{name}\""));

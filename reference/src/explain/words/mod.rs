@@ -11,27 +11,28 @@ mod text;
 
 use crate::draft::Draft;
 use crate::explain::layout::LayoutFault;
-use crate::explain::Why;
+use crate::explain::{Examined, Why};
 use crate::file::{File, Judgement, StateSet, Step};
 use crate::names::Names;
 use crate::{rules, Reply};
 use text::Text;
 
-/// The reason for the reply; `file` is what was read of the bytes.
-pub fn lines(bytes: &[u8], file: &File, reply: Reply, why: &Why, names: &Names) -> Vec<String> {
+/// The reason for the reply, by what was read of the bytes.
+pub fn lines(bytes: &[u8], read: &Examined, reply: Reply, why: &Why, names: &Names) -> Vec<String> {
+    let file = &read.file;
     let text = Text { draft: &Draft::of(file), names };
     match (why, reply) {
         (Why::Accepted(argument), _) => accepted::words(&text, file, argument),
-        (Why::Layout(fault), _) => layout_words(bytes, file, fault, names),
+        (Why::Layout(fault), _) => layout_words(bytes, read, fault, names),
         (_, Reply::Refused { place, .. }) => step_words(&text, file, place as usize, why),
         (_, Reply::Accepted) => Vec::new(),
     }
 }
 
 /// The text form of what stands before the fault, where there is any, and the field with the fault.
-fn layout_words(bytes: &[u8], file: &File, fault: &LayoutFault, names: &Names) -> Vec<String> {
-    let before = beginning::lines(bytes, file, fault, names);
-    let words = layout::words(bytes, file, fault, names);
+fn layout_words(bytes: &[u8], read: &Examined, fault: &LayoutFault, names: &Names) -> Vec<String> {
+    let before = beginning::lines(bytes, read, fault, names);
+    let words = layout::words(bytes, &read.file, fault, names);
     if before.is_empty() {
         return words;
     }
@@ -53,7 +54,7 @@ fn step_words(text: &Text, file: &File, number: usize, why: &Why) -> Vec<String>
         Why::Untrue(found) => counterexample::words(text, file, step, found),
         Why::NotUnsolvable => last_step(text, file),
         Why::Unknown => vec![UNKNOWN.to_string()],
-        Why::Accepted(_) | Why::Layout(_) => Vec::new(),
+        Why::Accepted(_) | Why::Layout(_) | Why::Numbers(_) => Vec::new(),
     };
     [head, lines].concat()
 }
