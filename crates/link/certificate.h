@@ -9,19 +9,26 @@
 extern "C" {
 #endif
 
-/* The `length` bytes at `file` are read and not written, and no pointer is kept. Any bytes may be passed.
-   `file` may be NULL where `length` is 0: that is an empty file, refused with 1 at 0. */
+/* The `length` bytes at `file` and the `count` bytes at `numbers` are read and not written, and no pointer is kept. Any bytes may be
+   passed. `file` may be NULL where `length` is 0: that is an empty file, refused with 1 at 0. So may `numbers` where `count` is 0. */
 
 /* 0 where the file's certificate shows that no forbidden state is ever reached, else the refusal. */
 uint64_t certificate_check(const uint8_t *file, size_t length);
+
+/* The same for a file with the caller's own rule numbers: `numbers` is a list of 28 bytes from 1 to 255, no two of them equal, the
+   k-th being the number that the file uses for rule k. A number that the list lacks is an unknown rule. A list of another length is
+   refused with 18 and its length as place; then one with a zero, or a number used before, with 18 at the first such byte, counted
+   from 0. Both come before the file is read. */
+uint64_t certificate_check_numbered(const uint8_t *file, size_t length, const uint8_t *numbers, size_t count);
 
 /* Whether a state is in the set of an entry of the file: CERTIFICATE_OUT, CERTIFICATE_IN, else the refusal. */
 uint64_t certificate_ask(const uint8_t *file, size_t length, uint64_t entry, uint64_t state);
 
 enum { CERTIFICATE_OUT = 0, CERTIFICATE_IN = 1 };
 
-/* A refusal is one number: document 01's refusal number times 2^32, plus its place. That is a byte of the file for the numbers 1
-   to 7, a step for 8 to 12, and 0 for 13. What is no refusal has number 0. */
+/* A refusal is one number: the documents' refusal number times 2^32, plus its place. That is a byte of the file for the numbers 1
+   to 7, a step for 8 to 12, 0 for 13, and for 18 a byte of the list, or the list's length: 2^32 - 1 where that does not fit 32 bits.
+   What is no refusal has number 0. */
 #define CERTIFICATE_NUMBER(code) ((uint32_t)((uint64_t)(code) >> 32))
 #define CERTIFICATE_PLACE(code) ((uint32_t)(code))
 
@@ -41,7 +48,8 @@ enum { CERTIFICATE_OUT = 0, CERTIFICATE_IN = 1 };
     EACH(CERTIFICATE_REFUSED_SHAPE, 10, "shape not permitted") \
     EACH(CERTIFICATE_REFUSED_UNTRUE, 11, "basic statement untrue") \
     EACH(CERTIFICATE_REFUSED_LAST, 12, "the last step is not \"unsolvable\"") \
-    EACH(CERTIFICATE_REFUSED_QUESTION, 13, "a question that cannot be asked")
+    EACH(CERTIFICATE_REFUSED_QUESTION, 13, "a question that cannot be asked") \
+    EACH(CERTIFICATE_REFUSED_NUMBERS, 18, "a list of rule numbers that is not 28 different bytes from 1 to 255")
 
 #define CERTIFICATE_CONSTANT(name, number, text) name = number,
 enum certificate_number { CERTIFICATE_NUMBERS(CERTIFICATE_CONSTANT) };

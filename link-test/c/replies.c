@@ -1,12 +1,12 @@
-/* The proved checker from C, and from C++: what it replies to files, to changes of the sample and to questions, printed for
-   comparison with `expected`. The first file is the sample. */
+/* The proved checker from C, and from C++: what it replies to files, to changes of the sample, to lists of rule numbers and to
+   questions, printed for comparison with `expected`. The first file is the sample. */
 #include "certificate.h"
 
 #include <stdio.h>
 #include <stdlib.h>
 #include <string.h>
 
-enum { LIMIT = 65537 };
+enum { LIMIT = 65537, RULES = 28, SAMPLE_STEPS = 138, STEP = 12 };
 
 /* A change of the sample: one byte, for each refusal that one byte makes. */
 static const struct change {
@@ -78,6 +78,36 @@ static void print_changes(const uint8_t *sample, size_t length) {
     }
 }
 
+/* The sample with its rule bytes rewritten by a list, one byte longer than a list may be, that gives rule k the number 255 - k. */
+static void print_numbered(const uint8_t *sample, size_t length) {
+    static uint8_t file[LIMIT];
+    uint8_t numbers[RULES + 1];
+    size_t i;
+    for (i = 0; i < sizeof numbers; i++) {
+        numbers[i] = (uint8_t)(254 - i);
+    }
+    memcpy(file, sample, length);
+    for (i = SAMPLE_STEPS; i < length; i += STEP) {
+        file[i] = numbers[file[i] - 1];
+    }
+    print_reply("numbered", certificate_check_numbered(file, length, numbers, RULES));
+    print_reply("numbered, without its list", certificate_check(file, length));
+    print_reply("the sample with that list", certificate_check_numbered(sample, length, numbers, RULES));
+    print_reply("numbered, cut short", certificate_check_numbered(file, length - 1, numbers, RULES));
+    print_reply("no bytes with that list", certificate_check_numbered(NULL, 0, numbers, RULES));
+    print_reply("a list of 29", certificate_check_numbered(file, length, numbers, RULES + 1));
+    print_reply("a list of 27", certificate_check_numbered(file, length, numbers, RULES - 1));
+    print_reply("no list", certificate_check_numbered(file, length, NULL, 0));
+    print_reply("no list and no bytes", certificate_check_numbered(NULL, 0, NULL, 0));
+    file[SAMPLE_STEPS + STEP] = 0;
+    print_reply("rule byte 0 at step 1", certificate_check_numbered(file, length, numbers, RULES));
+    numbers[9] = numbers[3];
+    print_reply("a number used before", certificate_check_numbered(file, length, numbers, RULES));
+    numbers[5] = 0;
+    print_reply("a zero", certificate_check_numbered(file, length, numbers, RULES));
+    print_reply("a zero and no bytes", certificate_check_numbered(NULL, 0, numbers, RULES));
+}
+
 static void print_questions(const uint8_t *sample, size_t length) {
     print_answer("state 2 in set 3", certificate_ask(sample, length, 3, 2));
     print_answer("state 3 in set 3", certificate_ask(sample, length, 3, 3));
@@ -99,6 +129,7 @@ int main(int count, char **paths) {
     print_answer("a question about no bytes", certificate_ask(NULL, 0, 0, 0));
     length = read_file(paths[1], bytes);
     print_changes(bytes, length);
+    print_numbered(bytes, length);
     print_questions(bytes, length);
     for (i = 1; i < count; i++) {
         length = read_file(paths[i], bytes);

@@ -4,6 +4,7 @@ use reference::{Answer, Reply};
 
 extern "C" {
     fn certificate_check(file: *const u8, length: usize) -> u64;
+    fn certificate_check_numbered(file: *const u8, length: usize, numbers: *const u8, count: usize) -> u64;
     fn certificate_ask(file: *const u8, length: usize, entry: u64, state: u64) -> u64;
 }
 
@@ -11,6 +12,12 @@ extern "C" {
 pub fn check(file: &[u8]) -> u64 {
     // It requires nothing of the bytes, reads no others and keeps nothing.
     unsafe { certificate_check(file.as_ptr(), file.len()) }
+}
+
+/// The code of the proved checker's reply to a file with a caller's own rule numbers.
+pub fn check_numbered(file: &[u8], numbers: &[u8]) -> u64 {
+    // As above, for both.
+    unsafe { certificate_check_numbered(file.as_ptr(), file.len(), numbers.as_ptr(), numbers.len()) }
 }
 
 /// The code of the proved checker's answer.
@@ -32,10 +39,11 @@ pub fn answer_code(answer: Answer) -> u64 {
     match answer {
         Answer::Out => 0,
         Answer::In => 1,
-        Answer::Refused { number, place } => refusal_code(number, place),
+        Answer::Refused { number, place } => refusal_code(number, place.into()),
     }
 }
 
-fn refusal_code(number: u8, place: u32) -> u64 {
-    (number as u64) << 32 | place as u64
+/// A place that does not fit 32 bits is told as the greatest that does.
+fn refusal_code(number: u8, place: u64) -> u64 {
+    (number as u64) << 32 | place.min(u32::MAX.into())
 }

@@ -1,13 +1,23 @@
 //! The linked checker replies as the reference checker does.
 
-use link_test::{answer_code, ask, check, reply_code};
-use reference::generate::cases;
+use link_test::{answer_code, ask, check, check_numbered, reply_code};
+use reference::generate::numbered::numbered;
 use reference::generate::random::Random;
+use reference::generate::{cases, Call};
+use reference::Reply;
 
 /// Both checkers on one file.
 fn same_reply(file: &[u8], what: &str) -> u64 {
     let code = check(file);
     assert_eq!(code, reply_code(reference::check(file)), "{what}: {file:02x?}");
+    code
+}
+
+/// Both checkers on one file with a list.
+fn same_numbered(file: &[u8], numbers: &[u8], what: &str) -> u64 {
+    let code = check_numbered(file, numbers);
+    let expected = reply_code(reference::check_numbered(file, numbers));
+    assert_eq!(code, expected, "{what}: {numbers:?}: {file:02x?}");
     code
 }
 
@@ -37,7 +47,10 @@ fn generated_cases() {
             code => refused[(code >> 32) as usize] += 1,
         }
         let other = (random.below(12) as u64, random.below(16) as u64);
-        let (entry, state) = case.question.unwrap_or(other);
+        let (entry, state) = match case.call {
+            Call::Ask(entry, state) => (entry, state),
+            _ => other,
+        };
         match same_answer(&case.bytes, entry, state, &what) {
             0 => outside += 1,
             1 => inside += 1,
@@ -46,6 +59,73 @@ fn generated_cases() {
     }
     assert!(accepted >= 500 && inside >= 200 && outside >= 200, "{accepted} {inside} {outside}");
     assert!(refused[1..].iter().all(|count| *count >= 5), "{refused:?}");
+}
+
+/// Files with a caller's own rule numbers, and lists with faults.
+#[test]
+fn numbered_cases() {
+    let (mut accepted, mut refused) = (0, [0; 19]);
+    for (index, case) in numbered(4, 5000).enumerate() {
+        let Call::Numbered(list) = &case.call else { panic!("case {index} has no list") };
+        match same_numbered(&case.bytes, list, &format!("case {index}")) {
+            0 => accepted += 1,
+            code => refused[(code >> 32) as usize] += 1,
+        }
+    }
+    assert!(accepted >= 500 && refused[18] >= 500, "{accepted} {refused:?}");
+    assert!(refused[1..=12].iter().all(|count| *count >= 5), "{refused:?}");
+}
+
+/// With the numbers 1 to 28 every code is the plain one.
+#[test]
+fn the_rules_own_numbers() {
+    let list: Vec<u8> = (1..=28).collect();
+    for (index, case) in cases(6, 3000).enumerate() {
+        let code = same_numbered(&case.bytes, &list, &format!("case {index}"));
+        assert_eq!(code, check(&case.bytes), "case {index}");
+    }
+}
+
+/// The list of the numbered sample: rule k has 129 - k.
+fn sample_list() -> Vec<u8> {
+    (101..=128).rev().collect()
+}
+
+/// The numbered sample, as it is and with each byte changed to every other.
+#[test]
+fn numbered_sample() {
+    let mut file = sample("numbered");
+    assert_eq!(same_numbered(&file, &sample_list(), "the numbered sample"), 0);
+    for at in 0..file.len() {
+        let byte = file[at];
+        for change in 1..=255 {
+            file[at] = byte ^ change;
+            same_numbered(&file, &sample_list(), "the numbered sample changed");
+        }
+        file[at] = byte;
+    }
+}
+
+/// Random bytes as lists, of every length up to 600 and of some longer ones; and a lawful list with each byte changed.
+#[test]
+fn lists() {
+    let mut random = Random::new(7);
+    let (file, mut list) = (sample("numbered"), sample_list());
+    for length in (0..600).chain([65_535, 65_536, 65_537, 1_000_000]) {
+        let any: Vec<u8> = (0..length).map(|_| random.next() as u8).collect();
+        let code = same_numbered(&file, &any, "random");
+        assert_eq!(length == 28, code != 18 << 32 | length as u64);
+    }
+    for at in 0..28 {
+        let number = list[at];
+        for change in 0..=255 {
+            list[at] = change;
+            same_numbered(&file, &list, "a changed list");
+            same_numbered(&[], &list, "a changed list and no file");
+        }
+        list[at] = number;
+    }
+    assert_eq!(reply_code(Reply::Refused { number: 18, place: 1 << 32 }), 18 << 32 | 0xFFFF_FFFF);
 }
 
 /// Random bytes, plain and with a true length field and version.
