@@ -20,6 +20,9 @@ explain [--numbers LIST] FILE [NAMES] | draw FILE [table|steps] [NAMES] | cost F
 const EXPLAIN_USAGE: &str =
     "usage: explain [--numbers LIST] FILE [NAMES]   (FILE may be - for standard input)";
 
+/// A caller's list of rule numbers, where one is given.
+type List = Option<Vec<u8>>;
+
 /// What stops a command: a wrong call, or a message.
 enum Stop {
     Usage,
@@ -168,7 +171,7 @@ fn shown(words: &[&str]) -> Result<String, Stop> {
 }
 
 /// A list where the arguments begin with `--numbers LIST`, and the other arguments.
-fn with_list<'a>(words: &'a [&'a str]) -> Result<(Option<Vec<u8>>, &'a [&'a str]), Stop> {
+fn with_list<'a>(words: &'a [&'a str]) -> Result<(List, &'a [&'a str]), Stop> {
     match words {
         ["--numbers", list, rest @ ..] => Ok((Some(read_list(list)?), rest)),
         ["--numbers"] => Err(Stop::Usage),
@@ -211,7 +214,7 @@ fn read_text(file: &str) -> Result<String, Stop> {
 }
 
 /// The list, the bytes and the names for the arguments `[--numbers LIST] FILE [NAMES]`.
-fn read_all(words: &[&str]) -> Result<(Option<Vec<u8>>, Vec<u8>, Names), Stop> {
+fn read_all(words: &[&str]) -> Result<(List, Vec<u8>, Names), Stop> {
     let (numbers, rest) = with_list(words)?;
     let (bytes, names) = match rest {
         [file] => read_named(file, None)?,

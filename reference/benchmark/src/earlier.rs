@@ -1,7 +1,9 @@
 //! An earlier build of the proved checker and today's, loaded side by side, so that one run times both. Both have the same
 //! C names, and code that is put elsewhere takes other times: so both come as shared objects (`reference/bench` makes them).
 
-use std::ffi::{c_char, c_int, c_void, CString};
+use std::ffi::{c_char, c_int, c_void, CStr, CString};
+
+use crate::files::Timed;
 
 extern "C" {
     fn dlopen(name: *const c_char, flags: c_int) -> *mut c_void;
@@ -19,40 +21,57 @@ pub struct Builds {
 
 impl Builds {
     pub fn load(before: &str, today: &str) -> Result<Builds, String> {
-        Ok(Builds { before: Build::load(before)?, today: Build::load(today)? })
+        let builds = Builds { before: Build::load(before)?, today: Build::load(today)? };
+        match builds.today.check_numbered {
+            Some(_) => Ok(builds),
+            None => Err(format!("{today}: no certificate_check_numbered")),
+        }
     }
 }
 
-/// A build's function, as `certificate.h` declares it. The object stays loaded.
+type Check = unsafe extern "C" fn(*const u8, usize) -> u64;
+type CheckNumbered = unsafe extern "C" fn(*const u8, usize, *const u8, usize) -> u64;
+
+/// A build's functions, as `certificate.h` declares them; an early build has no lists of rule numbers. The object stays loaded.
 pub struct Build {
-    check: unsafe extern "C" fn(*const u8, usize) -> u64,
+    check: Check,
+    check_numbered: Option<CheckNumbered>,
 }
 
 impl Build {
     pub fn load(path: &str) -> Result<Build, String> {
         let name = CString::new(path).map_err(|_| format!("{path}: not a file's name"))?;
-        // Safe: both strings end with a zero byte, and what is loaded runs no code by itself.
-        let found = unsafe {
-            let object = dlopen(name.as_ptr(), NOW);
-            if object.is_null() {
-                object
-            } else {
-                dlsym(object, c"certificate_check".as_ptr())
-            }
-        };
-        if found.is_null() {
+        // Safe: the string ends with a zero byte, and what is loaded runs no code by itself.
+        let object = unsafe { dlopen(name.as_ptr(), NOW) };
+        let Some(check) = found(object, c"certificate_check") else {
             return Err(format!("{path}: no shared object with certificate_check"));
-        }
-        // The name has this type in every build so far.
-        let check = unsafe {
-            std::mem::transmute::<*mut c_void, unsafe extern "C" fn(*const u8, usize) -> u64>(found)
         };
-        Ok(Build { check })
+        let numbered = found(object, c"certificate_check_numbered");
+        // Each name has this type in every build that has it.
+        unsafe {
+            Ok(Build {
+                check: std::mem::transmute::<*mut c_void, Check>(check),
+                check_numbered: numbered.map(|name| std::mem::transmute::<*mut c_void, CheckNumbered>(name)),
+            })
+        }
     }
 
-    /// The code of its reply.
-    pub fn check(&self, file: &[u8]) -> u64 {
-        // It requires nothing of the bytes, reads no others and keeps nothing.
-        unsafe { (self.check)(file.as_ptr(), file.len()) }
+    /// The code of its reply; none where the file has a list and the build takes none.
+    pub fn check(&self, file: &Timed) -> Option<u64> {
+        let bytes = &file.bytes;
+        // They require nothing of the bytes, read no others and keep nothing.
+        match &file.numbers {
+            None => Some(unsafe { (self.check)(bytes.as_ptr(), bytes.len()) }),
+            Some(numbers) => self
+                .check_numbered
+                .map(|check| unsafe { check(bytes.as_ptr(), bytes.len(), numbers.as_ptr(), numbers.len()) }),
+        }
     }
+}
+
+/// What a loaded object has by a name, where it was loaded and has it.
+fn found(object: *mut c_void, name: &CStr) -> Option<*mut c_void> {
+    // Safe: the object is loaded, and the name ends with a zero byte.
+    let place = if object.is_null() { object } else { unsafe { dlsym(object, name.as_ptr()) } };
+    (!place.is_null()).then_some(place)
 }

@@ -7,8 +7,11 @@ use reference::generate::limits::{many_action_sets, many_state_sets, workload};
 use reference::generate::random::Random;
 use reference::generate::worst::{busiest, no_model, two_right_leaves, Left, Order};
 use reference::layout::MAX_STATE_SETS;
+use reference::numbering::renumber;
 use reference::shape::Method;
 use reference::{Answer, Reply};
+
+use crate::proved;
 
 const SEED: u64 = 1;
 
@@ -18,12 +21,30 @@ pub struct Timed {
     /// How it was made smaller than the limits allow; empty where it was not.
     pub scaled: String,
     pub bytes: Vec<u8>,
+    /// The list of rule numbers to check it with, where there is one.
+    pub numbers: Option<Vec<u8>>,
     pub expected: Reply,
 }
 
 impl Timed {
     fn new(name: impl Into<String>, bytes: Vec<u8>, expected: Reply) -> Timed {
-        Timed { name: name.into(), scaled: String::new(), bytes, expected }
+        Timed { name: name.into(), scaled: String::new(), bytes, numbers: None, expected }
+    }
+
+    /// The code of the proved checker's reply.
+    pub fn proved(&self) -> u64 {
+        match &self.numbers {
+            None => proved::check(&self.bytes),
+            Some(numbers) => proved::check_numbered(&self.bytes, numbers),
+        }
+    }
+
+    /// The reference checker's reply.
+    pub fn reference(&self) -> Reply {
+        match &self.numbers {
+            None => reference::check(&self.bytes),
+            Some(numbers) => reference::check_numbered(&self.bytes, numbers),
+        }
     }
 
     fn accepted(name: impl Into<String>, draft: &Draft) -> Timed {
@@ -41,6 +62,16 @@ pub fn workloads() -> Vec<Timed> {
     ];
     let make = |number: usize| workload(&mut Random::new(SEED), number);
     names.iter().zip(1..).map(|(name, number)| Timed::accepted(*name, &make(number))).collect()
+}
+
+/// W4 as it is, and with its rule bytes rewritten by a list: rule k has the number 129 - k.
+pub fn without_and_with_list() -> [Timed; 2] {
+    let without = workloads().swap_remove(3);
+    let numbers: Vec<u8> = (101..=128).rev().collect();
+    let bytes = renumber(&without.bytes, &numbers).unwrap_or_else(|why| panic!("{why}"));
+    let name = format!("{}, a list of rule numbers", without.name);
+    let with = Timed { numbers: Some(numbers), ..Timed::new(name, bytes, Reply::Accepted) };
+    [without, with]
 }
 
 /// How many clauses the first right leaf of a worst case has: with all 256, one check would

@@ -4,6 +4,12 @@ use reference::{Answer, Reply};
 
 extern "C" {
     pub(crate) fn certificate_check(file: *const u8, length: usize) -> u64;
+    pub(crate) fn certificate_check_numbered(
+        file: *const u8,
+        length: usize,
+        numbers: *const u8,
+        count: usize,
+    ) -> u64;
     pub(crate) fn certificate_ask(file: *const u8, length: usize, entry: u64, state: u64) -> u64;
 }
 
@@ -11,6 +17,12 @@ extern "C" {
 pub fn check(file: &[u8]) -> u64 {
     // It requires nothing of the bytes, reads no others and keeps nothing.
     unsafe { certificate_check(file.as_ptr(), file.len()) }
+}
+
+/// The code of the proved checker's reply to a file with a caller's own rule numbers.
+pub fn check_numbered(file: &[u8], numbers: &[u8]) -> u64 {
+    // As above, for both.
+    unsafe { certificate_check_numbered(file.as_ptr(), file.len(), numbers.as_ptr(), numbers.len()) }
 }
 
 /// The code of the proved checker's answer.
@@ -23,7 +35,7 @@ pub fn ask(file: &[u8], entry: u64, state: u64) -> u64 {
 pub fn reply(code: u64) -> Reply {
     match code {
         0 => Reply::Accepted,
-        _ => Reply::Refused { number: (code >> 32) as u8, place: code as u32 },
+        _ => Reply::Refused { number: (code >> 32) as u8, place: (code as u32).into() },
     }
 }
 

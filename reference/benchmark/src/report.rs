@@ -1,21 +1,27 @@
-//! The report: times on the workloads and the worst cases, how times grow, and the proved
-//! checker's stack, as Markdown. It ends at the first reply that is not as it should be. Where an
+//! The report: times on the workloads and the worst cases, what a list of rule numbers costs, how times grow, and the
+//! proved checker's stack, as Markdown. It ends at the first reply that is not as it should be. Where an
 //! earlier build of the proved checker is given, its times stand beside.
 
 use crate::agreement;
 use crate::earlier::Builds;
-use crate::files::{deepest, questions, series, workloads, worst_cases, Question, Series, Timed};
+use crate::files::{
+    deepest, questions, series, without_and_with_list, workloads, worst_cases, Question, Series, Timed,
+};
 use crate::format::{count, head, ratio, row, time};
-use crate::timing::{compare, Pace, Times};
+use crate::timing::{compare, list_cost, Pace, Pair, Times};
 use crate::{proved, stack};
 
 /// Measures and prints, row by row.
 pub fn print(pace: Pace, builds: Option<&Builds>) -> Result<(), String> {
     println!("{}", circumstances(pace));
-    let (workloads, worst, series) = (workloads(), worst_cases(), series());
+    let (workloads, lists, worst, series) = (workloads(), without_and_with_list(), worst_cases(), series());
     println!("\n## Workloads\n\n{}", head(&with_before(&TIMES, builds.map(|_| BEFORE))));
-    for file in workloads.iter().chain(&worst) {
+    for file in workloads.iter().chain(&lists[1..]).chain(&worst) {
         println!("{}", times_row(file, pace, builds)?);
+    }
+    println!("\n## With a list of rule numbers, and without\n\n{}", head(&LIST_COST));
+    for (who, times) in ["proved", "reference"].iter().zip(list_cost(pace, &lists)) {
+        println!("{}", list_row(who, &lists[0], &times));
     }
     println!("\n## Growth\n\n{}", head(&with_before(&GROWTH, builds.map(|_| BEFORE))));
     for one in &series {
@@ -23,6 +29,7 @@ pub fn print(pace: Pace, builds: Option<&Builds>) -> Result<(), String> {
     }
     println!("\n## Deepest stack of the proved checker\n\n{}", head(&["call", ">bytes", "file or entry"]));
     println!("{}", check_stack("check, workloads", &workloads)?);
+    println!("{}", check_stack("check, a list of rule numbers", &lists[1..])?);
     println!("{}", check_stack("check, growth", series.iter().flat_map(|one| &one.files))?);
     println!("{}", check_stack("check, worst cases", &worst)?);
     println!("{}", check_stack("check, most entries", [&deepest()])?);
@@ -56,8 +63,16 @@ fn with_before<T: Clone>(cells: &[T], before: Option<[T; 2]>) -> Vec<T> {
     cells.iter().cloned().chain(before.into_iter().flatten()).collect()
 }
 
-fn before_cells(times: &Times) -> Option<[String; 2]> {
-    times.earlier.map(|(seconds, over)| [time(seconds), ratio(over)])
+/// Empty where the earlier build was not timed.
+fn before_cells(times: &Times) -> [String; 2] {
+    let cells = times.earlier.as_ref().map(|pair| [time(pair.second), ratio(pair.ratio())]);
+    cells.unwrap_or_default()
+}
+
+/// The least and the greatest ratio.
+fn spread(pair: &Pair) -> String {
+    let (least, greatest) = pair.spread();
+    format!("{}..{}", ratio(least), ratio(greatest))
 }
 
 fn times_row(file: &Timed, pace: Pace, builds: Option<&Builds>) -> Result<String, String> {
@@ -65,19 +80,27 @@ fn times_row(file: &Timed, pace: Pace, builds: Option<&Builds>) -> Result<String
     if let Some(builds) = builds {
         agreement::same(file, &builds.before)?;
     }
-    let times = compare(pace, &file.bytes, builds);
-    let (least, greatest) = times.spread();
+    let times = compare(pace, file, builds);
+    let both = &times.reference;
     let cells = [
         file.name.clone(),
         count(file.bytes.len()),
         reply.to_string(),
-        time(times.proved),
-        time(times.reference),
-        ratio(times.ratio()),
-        format!("{}..{}", ratio(least), ratio(greatest)),
+        time(both.first),
+        time(both.second),
+        ratio(both.ratio()),
+        spread(both),
         file.scaled.clone(),
     ];
-    Ok(row(&with_before(&cells, before_cells(&times))))
+    Ok(row(&with_before(&cells, builds.map(|_| before_cells(&times)))))
+}
+
+const LIST_COST: [&str; 6] = ["checker", "file", ">with", ">without", ">with / without", ">least..greatest"];
+
+/// A checker's times with a list and without.
+fn list_row(who: &str, file: &Timed, times: &Pair) -> String {
+    let [with, without] = [times.first, times.second].map(time);
+    row(&[who, &file.name, &with, &without, &ratio(times.ratio()), &spread(times)])
 }
 
 const GROWTH: [&str; 8] =
@@ -88,34 +111,42 @@ fn print_growth(series: &Series, pace: Pace, builds: Option<&Builds>) -> Result<
     let mut before = None;
     for (size, file) in series.sizes.iter().zip(&series.files) {
         agreement::reply(file)?;
-        let times = compare(pace, &file.bytes, builds);
-        println!("{}", growth_row(series.name, *size, file, &times, before.as_ref()));
-        before = Some(times);
+        let times = compare(pace, file, builds);
+        let earlier = builds.map(|_| before_cells(&times));
+        println!("{}", growth_row(series.name, *size, file, &times.reference, before.as_ref(), earlier));
+        before = Some(times.reference);
     }
     Ok(())
 }
 
 /// The times at one size, and how much longer they are than at half of it.
-fn growth_row(name: &str, size: usize, file: &Timed, times: &Times, before: Option<&Times>) -> String {
-    let grew = |pick: fn(&Times) -> f64| before.map_or(String::new(), |old| ratio(pick(times) / pick(old)));
+fn growth_row(
+    name: &str,
+    size: usize,
+    file: &Timed,
+    times: &Pair,
+    before: Option<&Pair>,
+    earlier: Option<[String; 2]>,
+) -> String {
+    let grew = |pick: fn(&Pair) -> f64| before.map_or(String::new(), |old| ratio(pick(times) / pick(old)));
     let cells = [
         name.to_string(),
         count(size),
         count(file.bytes.len()),
-        time(times.proved),
-        grew(|times| times.proved),
-        time(times.reference),
-        grew(|times| times.reference),
+        time(times.first),
+        grew(|times| times.first),
+        time(times.second),
+        grew(|times| times.second),
         ratio(times.ratio()),
     ];
-    row(&with_before(&cells, before_cells(times)))
+    row(&with_before(&cells, earlier))
 }
 
 /// The most stack that a check of one of the files uses, and which file that is.
 fn check_stack<'a>(call: &str, files: impl IntoIterator<Item = &'a Timed>) -> Result<String, String> {
     let (mut most, mut at) = (0, "");
     for file in files {
-        let (bytes, code) = stack::of_check(&file.bytes);
+        let (bytes, code) = stack::of_file(file);
         if proved::reply(code) != file.expected {
             return Err(format!("{}: another reply on another stack", file.name));
         }

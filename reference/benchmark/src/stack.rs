@@ -3,7 +3,8 @@
 
 use std::arch::asm;
 
-use crate::proved::{certificate_ask, certificate_check};
+use crate::files::Timed;
+use crate::proved::{certificate_ask, certificate_check, certificate_check_numbered};
 
 /// Far more than the checker uses, in words of eight bytes.
 const WORDS: usize = 1 << 17;
@@ -12,6 +13,13 @@ const PAINT: u64 = 0xA5C3_96E1_D2B4_8778;
 /// The bytes of stack that a check writes to, its return address among them, and its code.
 pub fn of_check(file: &[u8]) -> (usize, u64) {
     measured(certificate_check as *const () as usize, file, 0, 0)
+}
+
+/// The same for a file with its list, where it has one.
+pub fn of_file(file: &Timed) -> (usize, u64) {
+    let Some(numbers) = &file.numbers else { return of_check(&file.bytes) };
+    let function = certificate_check_numbered as *const () as usize;
+    measured(function, &file.bytes, numbers.as_ptr() as u64, numbers.len() as u64)
 }
 
 /// The bytes of stack that a question writes to, its return address among them, and its code.

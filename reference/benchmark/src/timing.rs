@@ -6,7 +6,7 @@ use std::hint::black_box;
 use std::time::{Duration, Instant};
 
 use crate::earlier::Builds;
-use crate::proved;
+use crate::files::Timed;
 
 /// How long to measure.
 #[derive(Clone, Copy)]
@@ -30,30 +30,25 @@ pub struct Round {
     pub earlier: Option<f64>,
 }
 
-/// Times in seconds, the median of the rounds, and the ratio of each round, ascending.
-pub struct Times {
-    pub proved: f64,
-    pub reference: f64,
+/// Two times in seconds, the medians of the rounds, and the first over the second in each round, ascending.
+pub struct Pair {
+    pub first: f64,
+    pub second: f64,
     ratios: Vec<f64>,
-    /// The earlier build's time, and the proved checker's over it, the median of the rounds.
-    pub earlier: Option<(f64, f64)>,
 }
 
-impl Times {
-    pub fn of(rounds: &[Round]) -> Times {
-        let side = |pick: fn(&Round) -> f64| sorted(rounds.iter().map(pick));
-        let before: Vec<(f64, f64)> =
-            rounds.iter().filter_map(|round| Some((round.earlier?, round.proved / round.earlier?))).collect();
-        let of_before = |pick: fn(&(f64, f64)) -> f64| median(&sorted(before.iter().map(pick)));
-        Times {
-            proved: median(&side(|round| round.proved)),
-            reference: median(&side(|round| round.reference)),
-            ratios: side(|round| round.proved / round.reference),
-            earlier: (!before.is_empty()).then(|| (of_before(|pair| pair.0), of_before(|pair| pair.1))),
+impl Pair {
+    /// Of the rounds, of which there is one at least.
+    pub fn of(rounds: &[(f64, f64)]) -> Pair {
+        let side = |pick: fn(&(f64, f64)) -> f64| sorted(rounds.iter().map(pick));
+        Pair {
+            first: median(&side(|round| round.0)),
+            second: median(&side(|round| round.1)),
+            ratios: side(|round| round.0 / round.1),
         }
     }
 
-    /// The proved checker's time over the reference's: the median of the rounds.
+    /// The first time over the second: the median of the rounds.
     pub fn ratio(&self) -> f64 {
         median(&self.ratios)
     }
@@ -64,25 +59,61 @@ impl Times {
     }
 }
 
-/// Times the checkers on a file; where there are two builds of the proved one, today's as it is loaded beside the other.
-pub fn compare(pace: Pace, file: &[u8], builds: Option<&Builds>) -> Times {
+/// The proved checker beside the reference, and beside an earlier build where that was timed.
+pub struct Times {
+    pub reference: Pair,
+    pub earlier: Option<Pair>,
+}
+
+impl Times {
+    pub fn of(rounds: &[Round]) -> Times {
+        let reference: Vec<(f64, f64)> = rounds.iter().map(|round| (round.proved, round.reference)).collect();
+        let earlier: Vec<(f64, f64)> =
+            rounds.iter().filter_map(|round| Some((round.proved, round.earlier?))).collect();
+        Times { reference: Pair::of(&reference), earlier: (!earlier.is_empty()).then(|| Pair::of(&earlier)) }
+    }
+}
+
+/// Times the checkers on a file; where there are two builds of the proved one, today's as it is loaded beside the other,
+/// and the other where it can be called.
+pub fn compare(pace: Pace, file: &Timed, builds: Option<&Builds>) -> Times {
     let time = |who: usize| match (who, builds) {
-        (0, None) => best(pace.least, || proved::check(black_box(file))),
+        (0, None) => best(pace.least, || black_box(file).proved()),
         (0, Some(builds)) => best(pace.least, || builds.today.check(black_box(file))),
-        (1, _) => best(pace.least, || reference::check(black_box(file))),
+        (1, _) => best(pace.least, || black_box(file).reference()),
         (_, Some(builds)) => best(pace.least, || builds.before.check(black_box(file))),
         (_, None) => f64::NAN,
     };
-    let many = 2 + builds.iter().count();
+    let earlier = builds.and_then(|builds| builds.before.check(file));
+    let rounds = in_turns(pace, 2 + earlier.iter().count(), time);
+    let round =
+        |times: &Vec<f64>| Round { proved: times[0], reference: times[1], earlier: times.get(2).copied() };
+    Times::of(&rounds.iter().map(round).collect::<Vec<Round>>())
+}
+
+/// What the same steps take with a list and without one: of the proved checker and of the reference.
+pub fn list_cost(pace: Pace, [without, with]: &[Timed; 2]) -> [Pair; 2] {
+    let time = |who: usize| match who {
+        0 => best(pace.least, || black_box(with).proved()),
+        1 => best(pace.least, || black_box(without).proved()),
+        2 => best(pace.least, || black_box(with).reference()),
+        _ => best(pace.least, || black_box(without).reference()),
+    };
+    let rounds = in_turns(pace, 4, time);
+    [0, 2].map(|who| Pair::of(&rounds.iter().map(|times| (times[who], times[who + 1])).collect::<Vec<_>>()))
+}
+
+/// The times of so many in each round; the rounds take turns in who goes first.
+fn in_turns(pace: Pace, many: usize, time: impl Fn(usize) -> f64) -> Vec<Vec<f64>> {
     let round = |number: usize| {
-        let mut times = [f64::NAN; 3];
+        let mut times = vec![f64::NAN; many];
         for turn in 0..many {
             let who = (number + turn) % many;
             times[who] = time(who);
         }
-        Round { proved: times[0], reference: times[1], earlier: builds.map(|_| times[2]) }
+        times
     };
-    Times::of(&(0..pace.rounds).map(round).collect::<Vec<Round>>())
+    (0..pace.rounds).map(round).collect()
 }
 
 /// The least time of one run, in seconds, among runs that last so long all together; there

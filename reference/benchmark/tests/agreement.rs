@@ -2,7 +2,10 @@
 //! the size that its name says.
 
 use benchmark::earlier::{Build, Builds};
-use benchmark::files::{deepest, questions, series, workloads, worst_cases, Timed, ACTIONS, RIGHT_CLAUSES};
+use benchmark::files::{
+    deepest, questions, series, without_and_with_list, workloads, worst_cases, Timed, ACTIONS, RIGHT_CLAUSES,
+};
+use benchmark::timing::{compare, Pace};
 use benchmark::{agreement, proved, stack};
 use reference::file::File;
 use reference::layout::MAX_BYTES;
@@ -10,6 +13,7 @@ use reference::Reply;
 
 fn all() -> Vec<Timed> {
     let mut files = workloads();
+    files.extend(without_and_with_list());
     files.extend(worst_cases());
     files.extend(series().into_iter().flat_map(|one| one.files));
     files.push(deepest());
@@ -52,22 +56,52 @@ fn another_reply_than_expected_is_an_error() {
     assert!(agreement::answer(&question).is_err());
 }
 
-/// This build as a shared object, as `reference/bench --before` makes one of an earlier build.
+/// A shared object that the C compiler makes of what these words name.
+fn object(name: &str, words: &[&str]) -> String {
+    let path = std::env::temp_dir().join(format!("{name}-{}.so", std::process::id()));
+    let path = path.to_str().expect("a plain name").to_string();
+    let status = std::process::Command::new("cc").args(["-shared", "-o", &path]).args(words).status();
+    assert!(status.expect("cc").success());
+    path
+}
+
+/// This build as a shared object, as `reference/bench --before` makes one of an earlier build; and an object with
+/// `certificate_check` alone, which is no build, in the place of one that takes no lists.
 #[test]
 fn an_earlier_build_is_loaded_beside_this_one() {
     let library = concat!(env!("CARGO_MANIFEST_DIR"), "/../../target/staticlib/liblink.a");
-    let object = std::env::temp_dir().join(format!("before-{}.so", std::process::id()));
-    let path = object.to_str().expect("a plain name");
-    let words = ["-shared", "-o", path, "-Wl,--whole-archive", library, "-Wl,--no-whole-archive"];
-    assert!(std::process::Command::new("cc").args(words).status().expect("cc").success());
-    let builds = Builds::load(path, path).unwrap_or_else(|message| panic!("{message}"));
-    std::fs::remove_file(&object).expect("the object");
-    for file in [deepest(), workloads().swap_remove(3)] {
-        assert_eq!(builds.today.check(&file.bytes), proved::check(&file.bytes));
-        assert_eq!(agreement::same(&file, &builds.before), Ok(()));
+    let today = object("today", &["-Wl,--whole-archive", library, "-Wl,--no-whole-archive"]);
+    let without_lists = std::env::temp_dir().join(format!("early-{}.c", std::process::id()));
+    std::fs::write(&without_lists, "long certificate_check() { return 0; }\n").expect("a source");
+    let early = object("early", &[without_lists.to_str().expect("a plain name")]);
+    let builds = Builds::load(&today, &today).unwrap_or_else(|message| panic!("{message}"));
+    let [plain, listed] = without_and_with_list();
+    for file in [&deepest(), &plain, &listed] {
+        assert_eq!(builds.today.check(file), Some(file.proved()));
+        assert_eq!(agreement::same(file, &builds.before), Ok(()));
     }
+    let mixed = Builds::load(&early, &today).unwrap_or_else(|message| panic!("{message}"));
+    assert_eq!((mixed.before.check(&plain), mixed.before.check(&listed)), (Some(0), None));
+    assert_eq!([&plain, &listed].map(|file| agreement::same(file, &mixed.before)), [Ok(()), Ok(())]);
+    let timed = [&plain, &listed].map(|file| compare(Pace::QUICK, file, Some(&mixed)).earlier.is_some());
+    assert_eq!(timed, [true, false]);
+    assert!(agreement::same(&deepest(), &mixed.before).is_err());
+    assert!(Builds::load(&early, &early).is_err() && Builds::load(&today, "/no/such/object.so").is_err());
     assert!(Build::load("/no/such/object.so").is_err());
-    assert!(Builds::load(path, "/no/such/object.so").is_err());
+    for path in [today.as_ref(), early.as_ref(), without_lists.as_path()] {
+        std::fs::remove_file(path).expect("a file of this test");
+    }
+}
+
+/// The same steps, their rule bytes rewritten: refused without the list.
+#[test]
+fn a_list_goes_with_the_same_steps() {
+    let [without, with] = without_and_with_list();
+    let rules = |file: &Timed| read(file).steps.iter().map(|step| step.rule).collect::<Vec<u8>>();
+    let meant: Vec<u8> = rules(&with).iter().map(|number| 129 - number).collect();
+    assert_eq!((meant, with.bytes.len()), (rules(&without), without.bytes.len()));
+    assert_eq!((with.proved(), without.proved()), (0, 0));
+    assert_eq!(reference::check(&with.bytes), Reply::Refused { number: 8, place: 0 });
 }
 
 #[test]
@@ -123,6 +157,9 @@ fn stack_is_measured_by_the_same_call() {
     let (least, code) = stack::of_check(&[]);
     assert_eq!(proved::reply(code), Reply::Refused { number: 1, place: 0 });
     assert!(8 <= least && least < bytes, "{least} {bytes}");
+    let [_, listed] = without_and_with_list();
+    assert_eq!(stack::of_file(&listed).1, listed.proved());
+    assert_eq!(stack::of_file(&tower), stack::of_check(&tower.bytes));
     for question in questions() {
         let (bytes, code) = stack::of_ask(&question.bytes, question.entry, question.state);
         assert_eq!(proved::answer(code), question.expected);
