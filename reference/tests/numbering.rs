@@ -306,6 +306,7 @@ fn texts_are_those_of_the_rewritten_file() {
         assert_eq!(shown.matches("which the list lacks").count(), lacked.len(), "{shown}");
         if lacked.is_empty() {
             assert_eq!(shown, show(&rewritten(&case.bytes, list)));
+            assert_eq!(renumber(&rewritten(&case.bytes, list), list).as_ref(), Ok(&case.bytes));
         }
         lawful += 1;
         commented += !lacked.is_empty() as usize;
