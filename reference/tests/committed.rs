@@ -49,16 +49,25 @@ fn their_replies_are_those_given_today() {
 #[test]
 fn every_reply_and_rule_is_among_them() {
     let mut replies = BTreeSet::new();
+    let mut numbered = BTreeSet::new();
     let mut passed = BTreeSet::new();
     for case in cases(&read("stdin")) {
-        let reply = case.reply();
-        replies.insert(reply.split(' ').take(2).collect::<Vec<&str>>().join(" "));
+        let reply = case.reply().split(' ').take(2).collect::<Vec<&str>>().join(" ");
+        if let Call::Numbered(_) = case.call {
+            numbered.insert(reply);
+            continue;
+        }
+        replies.insert(reply);
         let Ok(file) = layout::read(&case.bytes) else { continue };
         let steps = 0..file.steps.len();
         passed.extend(steps.take_while(|k| check_step(&file, *k).is_ok()).map(|k| file.steps[k].rule));
     }
-    let refusals = (1..=13).map(|number| format!("refused {number}"));
-    let all: BTreeSet<String> = refusals.chain(["accepted", "in", "out"].map(String::from)).collect();
-    assert_eq!(replies, all);
+    let all = |numbers: &[u8], others: &[&str]| -> BTreeSet<String> {
+        let refusals = numbers.iter().map(|number| format!("refused {number}"));
+        refusals.chain(others.iter().map(|other| other.to_string())).collect()
+    };
+    let numbers: Vec<u8> = (1..=13).collect();
+    assert_eq!(replies, all(&numbers, &["accepted", "in", "out"]));
+    assert_eq!(numbered, all(&[&numbers[..12], &[18]].concat(), &["accepted"]));
     assert_eq!(passed, (1..=28).collect());
 }
