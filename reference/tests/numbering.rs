@@ -76,19 +76,18 @@ fn any_list(random: &mut Random) -> Vec<u8> {
 #[test]
 fn generated_cases_get_the_reply_of_the_rewritten_file() {
     let mut replies: BTreeMap<String, usize> = BTreeMap::new();
-    let (mut lengths, mut zeros, mut repeats) = (0, 0, 0);
+    let mut lengths: BTreeMap<usize, usize> = BTreeMap::new();
+    let (mut zeros, mut repeats) = ([0; 28], [0; 28]);
     for case in numbered(11, 6000) {
         let list = list_of(&case);
         let reply = case.reply();
         assert_eq!(reply, expected(&case.bytes, list), "{}", case.line());
         *replies.entry(reply.split(' ').take(2).collect::<Vec<_>>().join(" ")).or_default() += 1;
-        match list.len() {
-            28 => match faulty_byte(list).map(|k| list[k]) {
-                Some(0) => zeros += 1,
-                Some(_) => repeats += 1,
-                None => (),
-            },
-            _ => lengths += 1,
+        *lengths.entry(list.len()).or_default() += 1;
+        match Some(list).filter(|list| list.len() == 28).and_then(|list| faulty_byte(list)) {
+            Some(at) if list[at] == 0 => zeros[at] += 1,
+            Some(at) => repeats[at] += 1,
+            None => (),
         }
     }
     let all = (1..=12).chain([18]).map(|number| format!("refused {number}")).chain(["accepted".to_string()]);
@@ -96,7 +95,15 @@ fn generated_cases_get_the_reply_of_the_rewritten_file() {
         assert!(replies.get(&reply).is_some_and(|count| *count >= 8), "{reply}: {replies:?}");
     }
     assert!(replies["accepted"] >= 1000 && replies["refused 8"] >= 600, "{replies:?}");
-    assert!([lengths, zeros, repeats].iter().all(|count| *count >= 150), "{lengths} {zeros} {repeats}");
+    assert!([0, 1, 27, 29, 255, 256, 300].iter().all(|length| lengths[length] >= 15), "{lengths:?}");
+    assert!(
+        [0, 13, 14, 27].iter().all(|at| zeros[*at] >= 1) && zeros.iter().sum::<usize>() >= 200,
+        "{zeros:?}"
+    );
+    assert!(
+        [1, 26, 27].iter().all(|at| repeats[*at] >= 1) && repeats.iter().sum::<usize>() >= 200,
+        "{repeats:?}"
+    );
 }
 
 #[test]
