@@ -3,24 +3,13 @@
 // file with a list of rule numbers: the list's length stands in the entry's place, and the list before the file.
 use bytes::u32_at;
 use bytes::u64_at;
+use input::read_part;
 use libc::STDIN_FILENO;
 use printing::print_answer;
 use printing::print_reply;
 use question::ask;
 use verifier::check;
 use verifier::check_numbered;
-ghost use mathlib.Core.Path.{_≡_};
-ghost use lib.ListN.{length};
-
-// Reads the next bytes of standard input, as many as asked for where the buffer holds them.
-fn read_part(buffer: &mut [u8], len: usize) -> usize
-    ensures { λ r. ⌜ length (now (buffer .exit)) ≡ length (now (buffer .entry)) ⌝ }
-{
-    if buffer.len() < len {
-        return 0;
-    }
-    io::read_full(STDIN_FILENO, &mut buffer[..len])
-}
 
 // Replies to a case.
 fn reply(kind: u8, entry: u64, state: u64, numbers: &[u8], file: &[u8]) {
@@ -45,7 +34,10 @@ fn one_case() -> bool {
     let state = u64_at(&head, 9);
     let len = u32_at(&head, 17) as usize;
     let count = if kind == 2 { entry as usize } else { 0 };
-    if (1024 < count) | (65537 < len) {
+    if 1024 < count {
+        return false;
+    }
+    if 65537 < len {
         return false;
     }
     let mut numbers = [0u8; 1024];

@@ -1,4 +1,4 @@
--- `vectors::one_case` meets its contract.
+-- `one_case` meets its contract: the parts of the buffers that are handed on have the lengths that were read.
 -- Assumes nothing.
 use native.Mathlib.Omega.{arith}
 use lib.ListN.{length-take}
@@ -6,11 +6,11 @@ use borrow.Author.Needs.{needs}
 use Rattle.vectors.proofs.one_case.Statement.{statement}
 use Rattle.vectors.proofs.one_case.Tie as tie
 
-slice-aggregate-check : tie.Need-slice-aggregate-check
-slice-aggregate-check c = let e = c .before .before .before .before .read-part .ensures in simp length-take (omega arith)
+slice-aggregate-reply : tie.Need-slice-aggregate-reply
+slice-aggregate-reply c = simp length-take (omega arith)
 
-slice-aggregate-ask : tie.Need-slice-aggregate-ask
-slice-aggregate-ask c = let e = c .before .before .before .before .read-part .ensures in simp length-take (omega arith)
+slice-aggregate-reply-2 : tie.Need-slice-aggregate-reply-2
+slice-aggregate-reply-2 c = simp length-take (omega arith)
 
 pub one-case-spec : {M : Type 1} → statement M
 one-case-spec =
@@ -29,15 +29,15 @@ one-case-spec =
     (λ c. search needs)
     (λ c. search needs)
     (λ c. search needs)
+    (λ c. search needs)
     (λ c κs. search needs)
     (λ c. search needs)
     (λ c. search needs)
-    slice-aggregate-check
-    (λ c κs. search needs)
     (λ c κs. search needs)
     (λ c. search needs)
-    slice-aggregate-ask
-    (λ c κs. search needs)
-    (λ c κs. search needs)
     (λ c. search needs)
+    slice-aggregate-reply
+    (λ c. search needs)
+    slice-aggregate-reply-2
+    (λ c κs. search needs)
     (λ c. search needs))

@@ -1,10 +1,10 @@
--- `vectors::read_part` meets its contract.
+-- `read_part` meets its contract.
 -- Assumes nothing.
 use native.Mathlib.Omega.{arith}
 use lib.ListN.{length-take}
 use borrow.Author.Needs.{needs}
-use Rattle.vectors.proofs.read_part.Statement.{statement}
-use Rattle.vectors.proofs.read_part.Tie as tie
+use Rattle.input.proofs.read_part.Statement.{statement}
+use Rattle.input.proofs.read_part.Tie as tie
 
 slice-aggregate-read-full : tie.Need-slice-aggregate-read-full
 slice-aggregate-read-full c = simp length-take (omega arith)
