@@ -8,7 +8,7 @@ use native.Mathlib.Numerals.{add-one}
 use native.Mathlib.Decide.{ℕ-discrete, decLt}
 use native.Mathlib.Omega.{arith}
 use mathlib.Core.List.{List, [], _∷_, _++_}
-use lib.ListN.{length, getD, take, drop, set, replicate, getD-replicate, drop-of-length-le}
+use lib.ListN.{length, getD, take, drop, set, drop-of-length-le}
 use lib.Seq.{getD-set-same, getD-set-other, take-suc, take-all, drop-cons, length-take-le}
 use lib.Dec.{T, eqb, ltb, eqb→eq, ltb→lt, lt→ltb}
 use borrow.Author.Count.{below-more}
@@ -20,7 +20,6 @@ use Rattle.meaning.specs.Numbering.{checkUnused, checkNumbers, ruleFrom, ruleMe
 use Rattle.meaning.proofs.Results.{no-found}
 use Rattle.meaning.proofs.Refusals.{list-number}
 use Rattle.meaning.proofs.Numbering.{lacked, listed-from, rule-at, rule-before}
-use Rattle.numbering.specs.declared.ListReply.{ListReply}
 use Rattle.numbering.specs.declared.ListReply.the-variants.{Lawful, Refused}
 use Rattle.numbering.specs.Table.{Stands, listReply}
 
@@ -29,9 +28,9 @@ pub record Tabled (numbers : List ℕ) (k : ℕ) (rules : List ℕ) : Type 0 whe
   pub each : Stands rules (ruleMeant (take k numbers))
   pub left : checkUnused (take k numbers) (drop k numbers) ≡ checkUnused [] numbers
 
-pub tabled-none : (numbers : List ℕ) → Tabled numbers 0 (replicate 256 0)
+pub tabled-none : (numbers rules : List ℕ) → Stands rules (λ x. 0) → Tabled numbers 0 rules
 unfolding ruleMeant ruleFrom
-tabled-none numbers = record { each = λ x l. getD-replicate 256 x 0 0 l; left = refl }
+tabled-none numbers rules z = record { each = z; left = refl }
 
 module _ (numbers : List ℕ) (k : ℕ) (rules : List ℕ) (h : Tabled numbers k rules) (inside : k < length numbers) where
   abbrev x : ℕ
@@ -137,23 +136,23 @@ module _ (numbers : List ℕ) where
   whole-table k rules h e l = subst (λ (xs : List ℕ). Stands rules (ruleMeant xs)) (take-all k numbers (omega arith)) (h .each)
 
 -- what is told of a list, and what is known of its table
-module _ (numbers rules : List ℕ) where
-  abbrev Told : ListReply → Type 0
-  Told r = (r ≡ listReply (checkNumbers numbers)) × (checkNumbers numbers ≡ found tt → Stands rules (ruleMeant numbers))
-
-  pub told-refused : (p : ℕ) → checkNumbers numbers ≡ refuse 18 p → Told (Refused p)
+module _ (numbers : List ℕ) where
+  pub told-refused : {X : Type 0} (p : ℕ) → checkNumbers numbers ≡ refuse 18 p
+      → (Refused p ≡ listReply (checkNumbers numbers)) × (checkNumbers numbers ≡ found tt → X)
   unfolding listReply
   told-refused p e = (ap listReply (sym e), λ f. no-found 18 p tt (sym e ∙ f))
 
-  pub told-fault : (k : ℕ) → length numbers ≡ 28 → k < 28 → Tabled numbers k rules → getD numbers k 0 < 256 → (eqb (getD numbers k 0) 0 || ltb 0 (getD rules (getD numbers k 0) 0)) ≡ true
-      → Told (Refused k)
-  told-fault k e l h b t =
+  pub told-fault : {X : Type 0} (k : ℕ) (rules : List ℕ) → length numbers ≡ 28 → k < 28 → Tabled numbers k rules → getD numbers k 0 < 256
+      → (eqb (getD numbers k 0) 0 || ltb 0 (getD rules (getD numbers k 0) 0)) ≡ true
+      → (Refused k ≡ listReply (checkNumbers numbers)) × (checkNumbers numbers ≡ found tt → X)
+  told-fault k rules e l h b t =
       let i : k < length numbers = omega arith in
       told-refused k (by-bytes numbers e ∙ fault numbers k rules h i b t)
 
-  pub told-lawful : (k : ℕ) → Tabled numbers k rules → length numbers ≡ 28 → 28 ≤ k → Told Lawful
+  pub told-lawful : (k : ℕ) (rules : List ℕ) → length numbers ≡ 28 → 28 ≤ k → Tabled numbers k rules
+      → (Lawful ≡ listReply (checkNumbers numbers)) × (checkNumbers numbers ≡ found tt → Stands rules (ruleMeant numbers))
   unfolding listReply
-  told-lawful k h e l =
+  told-lawful k rules e l h =
       (ap listReply (sym (all-passed numbers k rules h e l)), λ _. whole-table numbers k rules h e l)
 
 -- ---- for callers: the list's check from what is told of it

@@ -20,6 +20,13 @@ pub struct Numbering {
     pub rules: RuleTable,
 }
 
+// The table of no list: no byte stands for a rule.
+fn no_rules() -> RuleTable
+    ensures { λ r. ⌜ Stands r (λ x. 0) ⌝ }
+{
+    [0u8; 256]
+}
+
 // The table of document 01's own numbers: each byte stands for itself.
 pub fn own_numbers() -> RuleTable
     ensures { λ r. ⌜ Stands r (λ x. x) ⌝ }
@@ -38,7 +45,7 @@ pub fn numbering_of(numbers: &[u8]) -> Numbering
     ensures { λ r. ⌜ r .reply ≡ listReply (checkNumbers (now (numbers .entry))) ⌝ }
     ensures { λ r. ⌜ (checkNumbers (now (numbers .entry)) ≡ found tt → Stands (r .rules) (ruleMeant (now (numbers .entry)))) ⌝ }
 {
-    let mut rules = [0u8; 256];
+    let mut rules = no_rules();
     let count = numbers.len();
     if count != 28 {
         return Numbering {
