@@ -1,22 +1,24 @@
 -- The tests of reply 8 as the code makes them, of a step's value.
 -- Assumes nothing.
 use mathlib.Core.Path.{_≡_, refl, sym, subst}
-use Prim.Native.Nat.{ℕ, zero, suc, _-_, _≤_, _<_}
+use Prim.Native.Nat.{ℕ, zero, suc, _+_, _-_, _*_, _%_, _^_, _≤_, _<_}
+use native.Mathlib.Nat.{pow-le-pow-right}
 use native.Mathlib.Omega.{arith}
-use mathlib.Core.Bool.{Bool, true, false, _&&_}
+use mathlib.Core.Bool.{Bool, true, false, _&&_, _||_}
 use mathlib.Core.List.{List, [], _∷_}
-use lib.Dec.{T, ltb, eqb, eqb→eq}
+use lib.Dec.{T, ltb, eqb, eqb→eq, ltb→lt, lt→ltb}
 use lib.ListN.{length, take, drop}
-use lib.Seq.{take-nil, drop-nil}
-use borrow.Author.Tests.{lt-ltb, ne-eqb}
+use borrow.Author.Tests.{ne-eqb}
 use Rattle.task.specs.Reach.{every}
-use Rattle.task.proofs.Tests.{holds, and-left, and-right}
+use Rattle.task.proofs.MaskLaws.{shifted-one}
+use Rattle.task.proofs.Tests.{holds, and-left, and-right, both-ways, same, is-true}
 use Rattle.certificate.specs.declared.Places.{Places}
 use Rattle.certificate.specs.declared.Step as code
 use Rattle.certificate.specs.declared.Judgement.the-variants.{Dead, Within, ActionsWithin}
 use Rattle.meaning.specs.File.{Step, File, stepAt}
 use Rattle.certificate.specs.Views.{premisesIn, premiseList, cleanOf, judgementOf, stepOf}
 use Rattle.certificate.specs.Known.{decoded}
+use Rattle.meaning.proofs.Results.{and-out, and-in}
 use Rattle.meaning.proofs.Order.{all-at}
 use Rattle.certificate.proofs.KnownLaws.{read-file, placed-steps}
 use Rattle.meaning.specs.Step.{entriesFit, wellFormed}
@@ -24,7 +26,7 @@ use Rattle.meaning.specs.Numbering.{withRule}
 use Rattle.numbers.specs.Numbers.{premisesOf, judgementKindOf}
 use Rattle.numbers.proofs.TwoBits.{kind-bound}
 use Rattle.rules.specs.Derives.{kindSaid}
-use Rattle.formed.specs.Formed.{placeFits, entriesIn, formedUnder, formed, IsStep}
+use Rattle.formed.specs.Formed.{entriesIn, formedUnder, formed, IsStep}
 use Rattle.rules.proofs.RuleLaws.{and-assoc, and-true, and-false, and-comm}
 use Rattle.meaning.proofs.Numbering.{rule-none, rule-past}
 use Rattle.formed.proofs.StepLaws.{rule-known}
@@ -57,24 +59,108 @@ module _ (bytes : List ℕ) (at : Places) (k : ℕ) (s : code.Step) (h : IsStep 
 pub unused : {X : Type 0} {b : Bool} → b ≡ false → b ≡ true → X
 unused h k = let z : true ≡ false = cc in absurd (subst T z tt)
 
--- premises, place by place
-pub places-fit : (n a b c i : ℕ)
-    → ((placeFits (ltb 0 n) a i && placeFits (ltb 1 n) b i) && placeFits (ltb 2 n) c i)
-    ≡ (every (λ p. ltb p i) (take n (a ∷ b ∷ c ∷ [])) && every (λ p. eqb p 0) (drop n (a ∷ b ∷ c ∷ [])))
-unfolding placeFits every
-places-fit zero a b c i = simp (and-assoc, and-true)
-places-fit (suc zero) a b c i = simp (and-assoc, and-true)
-places-fit (suc (suc zero)) a b c i = simp (and-assoc, and-true)
-places-fit (suc (suc (suc n))) a b c i =
-    simp (
-      lt-ltb 0 (suc (suc (suc n))) (omega arith),
-      lt-ltb 1 (suc (suc (suc n))) (omega arith),
-      lt-ltb 2 (suc (suc (suc n))) (omega arith),
-      take-nil {A = ℕ} n,
-      drop-nil {A = ℕ} n,
-      and-assoc,
-      and-true,
-    )
+-- 1, shifted by less than a word's length
+pub shifted : (n : ℕ) → n < 4 → 1 * 2 ^ (48 - 16 * n) % 18446744073709551616 ≡ 2 ^ (48 - 16 * n)
+shifted n l = shifted-one (48 - 16 * n) (omega arith)
+
+pub not-none : (n : ℕ) → n < 4 → 0 < 1 * 2 ^ (48 - 16 * n) % 18446744073709551616
+not-none n l = rw (shifted n l) (pow-le-pow-right {n = 2} (omega arith) {i = 0} {j = 48 - 16 * n} (omega arith))
+
+-- premises: three places as one number, of which the end is unused
+module _ (a b c i : ℕ) (la : a < 65536) (lb : b < 65536) (lc : c < 65536) where
+  abbrev places : ℕ
+  places = a * 4294967296 + b * 65536 + c
+
+  abbrev all-earlier : Bool
+  all-earlier = (ltb a i && ltb b i) && ltb c i
+
+  abbrev Fit : ℕ → Bool → Type 0
+  Fit n t = t ≡ (every (λ p. ltb p i) (take n (a ∷ b ∷ c ∷ [])) && every (λ p. eqb p 0) (drop n (a ∷ b ∷ c ∷ [])))
+
+  earlier-out : T all-earlier → (a < i) × (b < i) × (c < i)
+  earlier-out t =
+      let h = and-out (ltb a i && ltb b i) (ltb c i) t in
+      let g = and-out (ltb a i) (ltb b i) (h .0) in
+      (ltb→lt a i (g .0), ltb→lt b i (g .1), ltb→lt c i (h .1))
+
+  earlier-in : a < i → b < i → c < i → T all-earlier
+  earlier-in x y z = and-in (ltb a i && ltb b i) (ltb c i) (and-in (ltb a i) (ltb b i) (lt→ltb a i x) (lt→ltb b i y)) (lt→ltb c i z)
+
+  -- what is tested where n premises are used
+  abbrev Tested : ℕ → Bool
+  Tested n = eqb (places % 2 ^ (48 - 16 * n)) 0 && (eqb n 0 || all-earlier)
+
+  fit-none : Fit 0 (Tested 0)
+  unfolding every
+  fit-none =
+      both-ways _ _
+      (λ t.
+      let e : places % 281474976710656 ≡ 0 = eqb→eq _ 0 (and-out (eqb (places % 281474976710656) 0) true t .0) in
+      let a₀ : a ≡ 0 = omega arith in
+      let b₀ : b ≡ 0 = omega arith in
+      let c₀ : c ≡ 0 = omega arith in
+      and-in (eqb a 0) _ (same a₀) (and-in (eqb b 0) _ (same b₀) (and-in (eqb c 0) true (same c₀) tt)))
+      (λ t.
+      let h = and-out (eqb a 0) _ t in
+      let g = and-out (eqb b 0) _ (h .1) in
+      let a₀ = eqb→eq a 0 (h .0) in
+      let b₀ = eqb→eq b 0 (g .0) in
+      let c₀ = eqb→eq c 0 (and-out (eqb c 0) true (g .1) .0) in
+      let e : places % 281474976710656 ≡ 0 = omega arith in
+      and-in (eqb (places % 281474976710656) 0) true (same e) tt)
+
+  fit-one : Fit 1 (Tested 1)
+  unfolding every
+  fit-one =
+      both-ways _ _
+      (λ t.
+      let h = and-out (eqb (places % 4294967296) 0) all-earlier t in
+      let e : places % 4294967296 ≡ 0 = eqb→eq _ 0 (h .0) in
+      let b₀ : b ≡ 0 = omega arith in
+      let c₀ : c ≡ 0 = omega arith in
+      and-in (ltb a i && true) _ (and-in (ltb a i) true (lt→ltb a i (earlier-out (h .1) .0)) tt)
+      (and-in (eqb b 0) _ (same b₀) (and-in (eqb c 0) true (same c₀) tt)))
+      (λ t.
+      let h = and-out (ltb a i && true) _ t in
+      let x = ltb→lt a i (and-out (ltb a i) true (h .0) .0) in
+      let g = and-out (eqb b 0) _ (h .1) in
+      let b₀ = eqb→eq b 0 (g .0) in
+      let c₀ = eqb→eq c 0 (and-out (eqb c 0) true (g .1) .0) in
+      let e : places % 4294967296 ≡ 0 = omega arith in
+      and-in (eqb (places % 4294967296) 0) all-earlier (same e) (earlier-in x (omega arith) (omega arith)))
+
+  fit-two : Fit 2 (Tested 2)
+  unfolding every
+  fit-two =
+      both-ways _ _
+      (λ t.
+      let h = and-out (eqb (places % 65536) 0) all-earlier t in
+      let e : places % 65536 ≡ 0 = eqb→eq _ 0 (h .0) in
+      let c₀ : c ≡ 0 = omega arith in
+      let x = earlier-out (h .1) in
+      and-in (ltb a i && (ltb b i && true)) _
+      (and-in (ltb a i) _ (lt→ltb a i (x .0)) (and-in (ltb b i) true (lt→ltb b i (x .1)) tt)) (and-in (eqb c 0) true (same c₀) tt))
+      (λ t.
+      let h = and-out (ltb a i && (ltb b i && true)) _ t in
+      let g = and-out (ltb a i) _ (h .0) in
+      let x = ltb→lt a i (g .0) in
+      let y = ltb→lt b i (and-out (ltb b i) true (g .1) .0) in
+      let c₀ = eqb→eq c 0 (and-out (eqb c 0) true (h .1) .0) in
+      let e : places % 65536 ≡ 0 = omega arith in
+      and-in (eqb (places % 65536) 0) all-earlier (same e) (earlier-in x y (omega arith)))
+
+  fit-three : Fit 3 (Tested 3)
+  unfolding every
+  fit-three =
+      let e : places % 1 ≡ 0 = omega arith in
+      rw (is-true (eqb (places % 1) 0) (same e)) (simp (and-assoc, and-true))
+
+  pub places-fit : (n : ℕ) → n < 4 → Fit n (Tested n)
+  places-fit zero l = fit-none
+  places-fit (suc zero) l = fit-one
+  places-fit (suc (suc zero)) l = fit-two
+  places-fit (suc (suc (suc zero))) l = fit-three
+  places-fit (suc (suc (suc (suc n)))) l = absurd (omega arith)
 
 -- a kind that is asked for, between two more tests
 asked : (k j : ℕ) (c w r : Bool) → (k ≡ j → (c && w) ≡ r) → (c && eqb k j && w) ≡ (eqb k j && r)

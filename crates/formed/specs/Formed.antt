@@ -5,7 +5,7 @@ use mathlib.Core.Path.{_≡_}
 use mathlib.Core.Bool.{Bool, true, false, _&&_}
 use mathlib.Core.Option.{Option, none, some}
 use mathlib.Core.List.{List}
-use lib.Dec.{ltb, eqb}
+use lib.Dec.{ltb}
 use lib.ListN.{length}
 use Rattle.meaning.specs.File.{Step, File, stepAt}
 use Rattle.meaning.specs.Step.{Check, judgementKind, premiseCount, ruleAt, wellFormed}
@@ -15,11 +15,6 @@ use Rattle.certificate.specs.declared.Judgement.{Judgement}
 use Rattle.certificate.specs.declared.Judgement.the-variants.{Dead, Within, ActionsWithin, Unsolvable}
 use Rattle.certificate.specs.Views.{stepOf}
 use Rattle.certificate.specs.Known.{Placed, decoded}
-
--- a premise's place that is used holds an earlier step than i, an unused one zero
-unfoldable pub placeFits : Bool → ℕ → ℕ → Bool
-placeFits true p i = ltb p i
-placeFits false p i = eqb p 0
 
 module _ (f : File) where
   -- the entries that a judgement is about are in the file

@@ -4,7 +4,7 @@ use certificate::Places;
 use certificate::Step;
 use numbers::RuleNumber;
 ghost use mathlib.Core.Path.{_≡_};
-ghost use Prim.Native.Nat.{ℕ};
+ghost use Prim.Native.Nat.{ℕ, _<_};
 ghost use mathlib.Core.Bool.{_&&_};
 ghost use mathlib.Core.List.{List, [], _∷_};
 ghost use lib.Dec.{ltb, eqb};
@@ -14,7 +14,7 @@ ghost use Rattle.meaning.specs.File.{File, stepAt};
 ghost use Rattle.meaning.specs.Numbering.{withRule};
 ghost use Rattle.certificate.specs.Known.{decoded};
 ghost use Rattle.rules.specs.Derives.{kindSaid};
-ghost use Rattle.formed.specs.Formed.{formed, IsStep, placeFits, entriesIn};
+ghost use Rattle.formed.specs.Formed.{formed, IsStep, entriesIn};
 
 // A judgement's kind, 0 to 3.
 fn kind_of(j: Judgement) -> u8
@@ -40,18 +40,17 @@ fn entries_fit(states: u16, actions: u16, j: Judgement) -> bool
     }
 }
 
-// Whether a premise's place of step k holds an earlier step, where it is used, and zero where it is not.
-fn place_fits(used: bool, p: u16, k: u16) -> bool
-    ensures { λ r. ⌜ r ≡ placeFits used p k ⌝ }
-{
-    if used { p < k } else { p == 0 }
-}
-
-// Whether the premises of step k, of which so many are used, are earlier steps, and unused places are zero.
+// Whether the premises of step k, of which so many are used, are earlier steps, and unused places are zero. The three places are one
+// number, whose end is unused; there is no branch, since the processor could not guess it. Where unused places are zero they are
+// earlier steps too, unless k is 0.
 fn premises_fit(count: u8, a: u16, b: u16, c: u16, k: u16) -> bool
+    requires { ⌜ count < 4 ⌝ }
     ensures { λ r. ⌜ r ≡ (every (λ p. ltb p k) (take count (a ∷ b ∷ c ∷ [])) && every (λ p. eqb p 0) (drop count (a ∷ b ∷ c ∷ []))) ⌝ }
 {
-    place_fits(0 < count, a, k) & place_fits(1 < count, b, k) & place_fits(2 < count, c, k)
+    let places = a as u64 * 4294967296 + b as u64 * 65536 + c as u64;
+    let unused = places % (1 << (48 - 16 * count));
+    let earlier = (a < k) & (b < k) & (c < k);
+    (unused == 0) & ((count == 0) | earlier)
 }
 
 // Whether step k passes 8 by the rule that its number stands for: the rule is known and gives the step's judgement kind, its entries

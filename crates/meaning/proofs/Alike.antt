@@ -76,9 +76,9 @@ module _ (g : ℕ → ℕ) where
     within-same = ap within node-same
 
     statements-same : statements (rewritten g f) ≡ statements f
-    unfolding rewritten statements stateSetAt actionSetAt inActions actionsWithin kindAt child leafNode leaves isBasic isComplement isLiteral
-        literalKind complements others movedLeft movedRight bracket used ofLiterals ofClauses ofStates permitted shape₁ shapeWith shape₂
-        shape₃ mixed shape₄
+    unfolding rewritten statements stateSetAt actionSetAt inActions actionsWithin kindAt child leafNode leaves isBasic isComplement
+        isLiteral literalKind complements others movedLeft movedRight bracket used ofLiterals ofClauses ofStates permitted shape₁
+        shapeWith shape₂ shape₃ mixed shape₄
     statements-same =
         ap (λ (holds : ℕ → ℕ → Bool).
         record { kind = 1; shape = shape₁ f; holds = holds }
@@ -98,10 +98,10 @@ module _ (g : ℕ → ℕ) where
     match-step p s σ = refl
 
     -- a premise's rule is not looked at
-    match-premise : (p : Pattern) (k : ℕ) (σ : Letters) → matchStep (rewritten g f) p (stepAt (rewritten g f) k) σ ≡ matchStep f p (stepAt f k) σ
+    match-premise : (p : Pattern) (k : ℕ) (σ : Letters)
+        → matchStep (rewritten g f) p (stepAt (rewritten g f) k) σ ≡ matchStep f p (stepAt f k) σ
     unfolding matchStep
-    match-premise p k σ =
-        match-step p (stepAt (rewritten g f) k) σ ∙ ap (λ (s : Step). matchStep f p s σ) (step-stays k)
+    match-premise p k σ = match-step p (stepAt (rewritten g f) k) σ ∙ ap (λ (s : Step). matchStep f p s σ) (step-stays k)
 
     match-premises : (ps : List Pattern) (ks : List ℕ) (σ : Letters) → matchPremises (rewritten g f) ps ks σ ≡ matchPremises f ps ks σ
     unfolding matchPremises
@@ -155,7 +155,8 @@ module _ (f : File) where
     steps-alike : checkSteps (rewritten g f) 0 (rewritten g f .steps) ≡ checkSteps (rewritten h f) 0 (rewritten h f .steps)
     unfolding rewritten
     steps-alike =
-        all-checked-same g f 0 (map (renamed g) (f .steps)) ∙ all-alike 0 (f .steps) ∙ sym (all-checked-same h f 0 (map (renamed h) (f .steps)))
+        all-checked-same g f 0 (map (renamed g) (f .steps)) ∙ all-alike 0 (f .steps)
+        ∙ sym (all-checked-same h f 0 (map (renamed h) (f .steps)))
 
     last-alike : (n : ℕ) → stepAt (rewritten g f) n .kind ≡ stepAt (rewritten h f) n .kind
     last-alike n = ap (λ (s : Step). s .kind) (step-stays g f n ∙ sym (step-stays h f n))

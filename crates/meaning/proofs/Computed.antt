@@ -34,5 +34,6 @@ unfolding allOn without actionAt isInit isGoal applies after member every _>>=_ 
     movedRight bracket used ofLiterals ofClauses ofStates permitted shape₁ shapeWith shape₂ shape₃ mixed shape₄ statements rules
     patternKind noLetters _then_ given withLetter standsFor ofKind ofActionKind matchᴬ match matchEntries matchStep matchPremises
     judgementKind premiseCount allRules ruleAt entriesFit wellFormed checkBy checkStep checkSteps checkFile replyTo replyOf
-    checkUnused checkNumbers ruleNumbers ruleFrom ruleMeant rewritten checkRewritten replyNumbered word withLength tableBytes setBytes stepBytes firstSteps allSteps explicit012 fileBytes sample cases
+    checkUnused checkNumbers ruleNumbers ruleFrom ruleMeant rewritten checkRewritten replyNumbered word
+    withLength tableBytes setBytes stepBytes firstSteps allSteps explicit012 fileBytes sample cases
 computed = tt

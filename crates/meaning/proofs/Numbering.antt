@@ -15,7 +15,7 @@ use lib.Seq.{split-at, length-take-le}
 use lib.Dec.{T, eqb, eqb-refl, eqb→eq}
 use Rattle.task.specs.Reach.{member}
 use Rattle.task.proofs.Tests.{not-of, member-cases}
-use Rattle.meaning.specs.Result.{found, need, _>>=_}
+use Rattle.meaning.specs.Result.{found}
 use Rattle.meaning.specs.File.{File}
 use Rattle.meaning.specs.Statements.{statements}
 use Rattle.meaning.specs.Rules.{rules}

@@ -10,8 +10,8 @@ use Rattle.meaning.proofs.RulesSound.{rules-sound}
 use Rattle.meaning.specs.Certain.{certificateOf}
 use Rattle.meaning.specs.Points.{SampleLength, TwelveCases, RulesSound, JudgementsTrue, AcceptedIsSafe, SafeIsAccepted}
 use Rattle.meaning.specs.Points.{CertainCertificate, SampleForm, ReadsWithin, ReadsBack, WritesBack, Shortcut, RefusalNumbers}
-use Rattle.meaning.specs.Points.{AnswerNumbers, ListFaults, PlainNumbers, Renumbered, RewritingIsBijective, RewrittenIsRead, RewrittenAlike}
-use Rattle.meaning.specs.Points.{NumberedIsSafe, NumberedRefusals}
+use Rattle.meaning.specs.Points.{AnswerNumbers, ListFaults, PlainNumbers, Renumbered, RewritingIsBijective, RewrittenIsRead}
+use Rattle.meaning.specs.Points.{RewrittenAlike, NumberedIsSafe, NumberedRefusals}
 use Rattle.meaning.proofs.Computed.{computed}
 use Rattle.meaning.proofs.Judgements.{judgements-true, accepted-is-safe}
 use Rattle.meaning.proofs.Certain.{certain-certificate, safe-is-accepted}

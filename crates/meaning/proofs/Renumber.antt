@@ -14,7 +14,7 @@ use Rattle.task.specs.Reach.{member, every}
 use Rattle.task.proofs.Tests.{and-left, and-right, never, is-true, is-false, member-first, member-rest}
 use Rattle.meaning.specs.Result.{found}
 use Rattle.meaning.specs.Bytes.{AreBytes}
-use Rattle.meaning.specs.Numbering.{checkUnused, Renumbering}
+use Rattle.meaning.specs.Numbering.{checkUnused}
 use Rattle.meaning.specs.Points.{Renumbered}
 use Rattle.meaning.proofs.Results.{need-case, and-out}
 use Rattle.meaning.proofs.Numbering.{twenty-eight, all-unused}
@@ -97,7 +97,8 @@ listed-more xs x to from o n h k l =
       | yes m ↦
           let e : to (suc k) ≡ getD xs k 0 = h k m in
           swap-other (to (suc (length xs))) x (to (suc k))
-          (λ q. let z : suc k ≡ suc (length xs) = sym (o .from-to (suc k)) ∙ ap from q ∙ o .from-to (suc (length xs)) in absurd (omega arith))
+          (λ q.
+          let z : suc k ≡ suc (length xs) = sym (o .from-to (suc k)) ∙ ap from q ∙ o .from-to (suc (length xs)) in absurd (omega arith))
           (λ q. never (member x xs) (subst (λ (y : ℕ). T (member y xs)) (sym e ∙ q) (member-there xs k m)) n)
           ∙ e ∙ sym (List·getD-append xs (x ∷ []) 0 k m)
       | no m ↦

@@ -6,15 +6,15 @@ use native.Mathlib.Omega.{arith}
 use mathlib.Core.List.{List, [], _∷_, map}
 use lib.ListN.{length, getD, length-append}
 use lib.Dec.{eqb, eqb→eq}
-use Rattle.task.specs.Reach.{member, Safe}
+use Rattle.task.specs.Reach.{Safe}
 use Rattle.task.proofs.Tests.{each-at}
-use Rattle.meaning.specs.Result.{Result, refuse, found, _>>=_, need}
+use Rattle.meaning.specs.Result.{Result, refuse, found, _>>=_}
 use Rattle.meaning.specs.Bytes.{AreBytes}
 use Rattle.meaning.specs.File.{Step, File, actionSetAt, stateSetAt}
 use Rattle.meaning.specs.Layout.{readFile}
-use Rattle.meaning.specs.Writing.{each, writeStep, counted, writeCertificate, writeTask, writeFile, AllFrom, FitsStep, Fits}
+use Rattle.meaning.specs.Writing.{each, writeStep, counted, writeCertificate, writeFile, AllFrom, FitsStep, Fits}
 use Rattle.meaning.specs.Reply.{checkFile, replyTo, replyOf}
-use Rattle.meaning.specs.Numbering.{checkUnused, checkNumbers, ruleNumbers, ruleMeant, withRule, rewritten, checkRewritten}
+use Rattle.meaning.specs.Numbering.{checkNumbers, ruleNumbers, ruleMeant, withRule, rewritten, checkRewritten}
 use Rattle.meaning.specs.Numbering.{replyNumbered, rewriteBytes, Renumbering}
 use Rattle.meaning.specs.Points.{PlainNumbers, RewritingIsBijective, RewrittenIsRead, RewrittenAlike, NumberedIsSafe}
 use Rattle.meaning.proofs.Results.{bind-out, bind-same}

@@ -111,7 +111,8 @@ bytes-task : (t : Task) → FitsTask t → AreBytes (writeTask t)
 unfolding writeTask counted
 bytes-task t h =
     let few = h .few-facts in
-    bytes-append (1 ∷ t .facts ∷ bytesOf 8 (t .init) ++ bytesOf 8 (t .goal)) (bytesOf 2 (length (t .actions)) ++ each writeAction (t .actions))
+    bytes-append (1 ∷ t .facts ∷ bytesOf 8 (t .init) ++ bytesOf 8 (t .goal))
+    (bytesOf 2 (length (t .actions)) ++ each writeAction (t .actions))
     (byte-more 1 _ (omega arith) (byte-more (t .facts) _ (omega arith) (two-numbers 8 8 (t .init) (t .goal))))
     (bytes-append (bytesOf 2 (length (t .actions))) (each writeAction (t .actions)) (bytes-number 2 (length (t .actions)))
     (bytes-all writeAction bytes-action (t .actions)))

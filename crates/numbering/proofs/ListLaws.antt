@@ -40,8 +40,10 @@ module _ (numbers : List ℕ) (k : ℕ) (rules : List ℕ) (h : Tabled numbers k
   earlier = take k numbers
 
   -- the check of byte k, and then of the rest
-  next : (need (not (eqb x 0) && not (member x earlier)) 18 (length earlier) >>= (λ _. checkUnused (earlier ++ x ∷ []) (drop (suc k) numbers)))
-      ≡ checkUnused [] numbers
+  abbrev tested : Bool → Result (Unit {0})
+  tested b = need b 18 (length earlier) >>= (λ _. checkUnused (earlier ++ x ∷ []) (drop (suc k) numbers))
+
+  next : tested (not (eqb x 0) && not (member x earlier)) ≡ checkUnused [] numbers
   unfolding checkUnused
   next = sym (ap (checkUnused earlier) (drop-cons numbers k 0 inside)) ∙ h .left
 
@@ -70,7 +72,7 @@ module _ (numbers : List ℕ) (k : ℕ) (rules : List ℕ) (h : Tabled numbers k
   fault-at l (inl z) = sym next ∙ rw (eq-eqb x 0 z) (ap (refuse 18) place)
   fault-at l (inr u) = sym next ∙ rw (used-before l u) (go (not (eqb x 0)))
     where
-      go : (b : Bool) → (need (b && false) 18 (length earlier) >>= (λ _. checkUnused (earlier ++ x ∷ []) (drop (suc k) numbers))) ≡ refuse 18 k
+      go : (b : Bool) → tested (b && false) ≡ refuse 18 k
       go true = ap (refuse 18) place
       go false = ap (refuse 18) place
 

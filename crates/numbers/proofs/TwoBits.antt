@@ -8,7 +8,7 @@ use lib.Dec.{T, eqb, eqb→eq, ltb, ltb→lt}
 use lib.ListN.{getD, List·getD-eq-default}
 use Rattle.task.proofs.Tests.{each, each-at}
 use Rattle.numbers.specs.declared.RuleNumber.{RuleNumber}
-use Rattle.numbers.specs.Numbers.{ruleTable, judgementKindOf}
+use Rattle.numbers.specs.Numbers.{ruleTable, premisesOf, judgementKindOf}
 
 past : (n : ℕ) → 29 ≤ n → getD ruleTable n (0, 0) ≡ (0, 0)
 unfolding ruleTable
@@ -30,5 +30,14 @@ unfolding judgementKindOf ruleTable
 kind-bound n =
     elim (decLt n 29) [
       | yes l ↦ ltb→lt _ 4 (each-at (λ n. ltb (judgementKindOf n) 4) 29 n tt l)
+      | no l ↦ (let h : 29 ≤ n = omega arith in rw (past n h) (ltb→lt 0 4 tt))
+    ]
+
+-- and there are at most three premises
+pub premises-bound : (n : ℕ) → premisesOf n < 4
+unfolding premisesOf ruleTable
+premises-bound n =
+    elim (decLt n 29) [
+      | yes l ↦ ltb→lt _ 4 (each-at (λ n. ltb (premisesOf n) 4) 29 n tt l)
       | no l ↦ (let h : 29 ≤ n = omega arith in rw (past n h) (ltb→lt 0 4 tt))
     ]

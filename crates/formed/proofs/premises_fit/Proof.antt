@@ -1,15 +1,21 @@
--- `formed::premises_fit` meets its contract: place by place.
+-- `formed::premises_fit` meets its contract: by the three places as one number.
 -- Assumes nothing.
 use borrow.Author.Needs.{needs}
-use Rattle.formed.proofs.FormedLaws.{places-fit}
+use Rattle.formed.proofs.FormedLaws.{shifted, not-none, places-fit}
 use Rattle.formed.proofs.premises_fit.Statement.{statement}
 use Rattle.formed.proofs.premises_fit.Tie as tie
 
+rem-unused : tie.Need-rem-unused
+rem-unused c = not-none (c .args .count) (c .pre)
+
 returns : tie.Need-returns
 returns c =
-    let s = c .before .before .before in
-    let first = c .before .before in
-    rw (first .place-fits .ensures, c .before .place-fits2 .ensures, c .place-fits3 .ensures) (places-fit (s .args .count) _ _ _ _)
+    let s = c .args in
+    rw (shifted (s .count) (c .pre))
+    (places-fit (s .a) (s .b) (s .c) (s .k) (search needs) (search needs) (search needs) (s .count) (c .pre))
 
 pub premises-fit-spec : {M : Type 1} → statement M
-premises-fit-spec = tie.close (tie.spec (λ c κs. search needs) (λ c κs. search needs) (λ c κs. search needs) returns)
+premises-fit-spec =
+    tie.close (tie.spec
+    (λ c. search needs) (λ c. search needs) (λ c. search needs) (λ c. search needs) (λ c. search needs) (λ c. search needs)
+    (λ c. search needs) (λ c. search needs) rem-unused returns)

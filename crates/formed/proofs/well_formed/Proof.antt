@@ -4,6 +4,7 @@ use borrow.Author.Needs.{needs}
 use Rattle.meaning.specs.File.{stepAt}
 use Rattle.certificate.specs.Known.{decoded}
 use Rattle.certificate.proofs.KnownLaws.{placed-state-sets, placed-action-sets}
+use Rattle.numbers.proofs.TwoBits.{premises-bound}
 use Rattle.formed.proofs.FormedLaws.{three-premises, formed-none, formed-past, formed-tests}
 use Rattle.formed.proofs.well_formed.Statement.{statement}
 use Rattle.formed.proofs.well_formed.Tie as tie
@@ -23,8 +24,11 @@ returns-3 c bytes h =
     (c .before .entries-fit .ensures _ (placed-state-sets _ _ (h .placed)) (placed-action-sets _ _ (h .placed)))
     (c .premises-fit .ensures) (three-premises _ _ _ _ h)
 
+premises-fit-requires : tie.Need-premises-fit-requires
+premises-fit-requires c κs = rw (c .before .before .premises .ensures) (premises-bound _)
+
 pub well-formed-spec : {M : Type 1} → statement M
 well-formed-spec =
     tie.close (tie.spec
     returns returns-2 (λ c κs. search needs) (λ c κs. search needs) (λ c κs. search needs) (λ c κs. search needs)
-    (λ c κs. search needs) returns-3)
+    premises-fit-requires returns-3)

@@ -27,4 +27,5 @@ returns-2 c g stands =
 pub check-by-spec : {M : Type 1} → statement M
 check-by-spec =
     tie.close (tie.spec
-    (λ c κs. search needs) (λ c. search needs) (λ c. search needs) (λ c. search needs) index-of-requires check-steps-requires returns returns-2)
+    (λ c κs. search needs) (λ c. search needs) (λ c. search needs) (λ c. search needs) index-of-requires check-steps-requires
+    returns returns-2)

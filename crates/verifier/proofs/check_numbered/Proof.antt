@@ -25,4 +25,5 @@ returns-2 c =
     (e, (refl, (refl, λ y. numbered-is-safe _ _ (sym e ∙ y))))
 
 pub check-numbered-spec : {M : Type 1} → statement M
-check-numbered-spec = tie.close (tie.spec (λ c κs. search needs) (λ c. search needs) (λ c. search needs) (λ c κs. search needs) returns returns-2)
+check-numbered-spec =
+    tie.close (tie.spec (λ c κs. search needs) (λ c. search needs) (λ c. search needs) (λ c κs. search needs) returns returns-2)
