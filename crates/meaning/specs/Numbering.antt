@@ -44,6 +44,7 @@ ruleFrom k (y ∷ ys) x = elim (eqb x y) [ true ↦ k | false ↦ ruleFrom (suc 
 unfoldable pub ruleMeant : List ℕ → ℕ → ℕ
 ruleMeant numbers = ruleFrom 1 numbers
 
+-- the step with another rule
 abbrev pub withRule : ℕ → Step → Step
 withRule r s = record { rule = r; kind = s .kind; left = s .left; right = s .right; premises = s .premises }
 
@@ -74,7 +75,7 @@ replyNumbered bytes numbers = replyTo (do
 unfoldable pub rewriteBytes : (ℕ → ℕ) → List ℕ → List ℕ
 rewriteBytes g bytes = elim (readFile bytes) [ refuse r p ↦ bytes | found f ↦ writeFile (rewritten g f) ]
 
--- to rewrites bytes by the list, rule k's as its k-th, and from undoes it
+-- `to` rewrites bytes by the list, rule k's as its k-th, and `from` undoes it
 pub record Renumbering (numbers : List ℕ) (to from : ℕ → ℕ) : Type 0 where
   pub listed : (k : ℕ) → k < 28 → to (suc k) ≡ getD numbers k 0
   pub there : (x : ℕ) → x < 256 → to x < 256

@@ -24,20 +24,21 @@ in-word word carried none t n r (below, above) =
       | no l ↦ (let h : 29 ≤ n = omega arith in above h ∙ sym (ap carried (past n h) ∙ none))
     ]
 
+-- what a rule carries has two bits
+bound : (carried : RuleNumber → ℕ) → T (each (λ n. ltb (carried (getD ruleTable n (0, 0))) 4) 29) → carried (0, 0) < 4
+    → (n : ℕ) → carried (getD ruleTable n (0, 0)) < 4
+bound carried t none n =
+    elim (decLt n 29) [
+      | yes l ↦ ltb→lt _ 4 (each-at (λ n. ltb (carried (getD ruleTable n (0, 0))) 4) 29 n t l)
+      | no l ↦ (let h : 29 ≤ n = omega arith in rw (past n h) none)
+    ]
+
 -- a judgement kind is one of 0 to 3
 pub kind-bound : (n : ℕ) → judgementKindOf n < 4
 unfolding judgementKindOf ruleTable
-kind-bound n =
-    elim (decLt n 29) [
-      | yes l ↦ ltb→lt _ 4 (each-at (λ n. ltb (judgementKindOf n) 4) 29 n tt l)
-      | no l ↦ (let h : 29 ≤ n = omega arith in rw (past n h) (ltb→lt 0 4 tt))
-    ]
+kind-bound = bound (λ r. r .1) tt (ltb→lt 0 4 tt)
 
 -- and there are at most three premises
 pub premises-bound : (n : ℕ) → premisesOf n < 4
 unfolding premisesOf ruleTable
-premises-bound n =
-    elim (decLt n 29) [
-      | yes l ↦ ltb→lt _ 4 (each-at (λ n. ltb (premisesOf n) 4) 29 n tt l)
-      | no l ↦ (let h : 29 ≤ n = omega arith in rw (past n h) (ltb→lt 0 4 tt))
-    ]
+premises-bound = bound (λ r. r .0) tt (ltb→lt 0 4 tt)

@@ -7,7 +7,7 @@ use native.Mathlib.Omega.{arith}
 use mathlib.Core.Bool.{Bool, true, false}
 use mathlib.Core.Option.{Option, none, some}
 use mathlib.Core.List.{List, [], _∷_}
-use lib.ListN.{length, drop, getD}
+use lib.ListN.{length, drop, getD, List·getD-eq-default}
 use lib.Dec.{eqb}
 use borrow.Author.Tests.{ne-eqb}
 use denote.Enum.Declared.{tagOf}
@@ -155,6 +155,11 @@ module _ (f : File) where
 
 -- ---- the rules that numbers stand for
 
+-- past the last step there is no rule's number
+pub no-step : (f : File) (k : ℕ) → length (f .steps) ≤ k → stepAt f k .rule ≡ 0
+unfolding stepAt
+no-step f k l = ap (λ (s : Step). s .rule) (List·getD-eq-default (f .steps) _ l)
+
 module _ (g : ℕ → ℕ) (f : File) where
   as-many-steps : length (rewritten g f .steps) ≡ length (f .steps)
   unfolding rewritten
@@ -165,12 +170,11 @@ module _ (g : ℕ → ℕ) (f : File) where
   same-judgement k = ap (λ (s : Step). judgementOf (s .kind) (s .left) (s .right)) (step-stays g f k)
 
   -- step k by the rule that its number stands for, as a table has it, is the rewritten file's step
-  module _ (k : ℕ) (rules : List ℕ) {s : code.Step} {r : StepReply} (stands : Stands rules g) (l : k < length (f .steps))
-      (is : s ≡ stepOf (stepAt f k)) (byte : s .rule < 256)
-      (e : r ≡ stepReply (checkStep f k (withRule (getD rules (s .rule) 0) (stepAt f k)))) where
-    rule-meant : getD rules (s .rule) 0 ≡ g (stepAt f k .rule)
-    unfolding stepOf
-    rule-meant = stands (s .rule) byte ∙ ap g (ap (λ (x : code.Step). x .rule) is)
+  module _ (k : ℕ) (rules : List ℕ) {rule : ℕ} {s : code.Step} {r : StepReply} (stands : Stands rules g) (l : k < length (f .steps))
+      (is : s ≡ stepOf (stepAt f k)) (looked-up : (rule ≡ getD rules (stepAt f k .rule) 0) × (stepAt f k .rule < 256))
+      (e : r ≡ stepReply (checkStep f k (withRule rule (stepAt f k)))) where
+    rule-meant : rule ≡ g (stepAt f k .rule)
+    rule-meant = looked-up .0 ∙ stands (stepAt f k .rule) (looked-up .1)
 
     told : r ≡ stepReply (checkStep (rewritten g f) k (stepAt (rewritten g f) k))
     told =

@@ -16,6 +16,7 @@ use numbering::own_numbers;
 ghost use mathlib.Core.Path.{_≡_};
 ghost use Prim.Native.Nat.{ℕ, _<_};
 ghost use lib.Dec.{eqb};
+ghost use lib.ListN.{getD};
 ghost use Rattle.task.specs.Reach.{Safe};
 ghost use Rattle.meaning.specs.Result.{found, need};
 ghost use Rattle.meaning.specs.File.{File, stepAt};
@@ -40,7 +41,21 @@ fn last_step(said: Judgement, k: u64) -> Reply
     Reply::Accepted
 }
 
-// The steps in turn, each by the rule that its number stands for, and then whether the last one says "unsolvable".
+// The rule that the number of step k stands for by a table; what byte 0 stands for where there is no such step.
+fn rule_of(file: &[u8], at: Places, rules: &RuleTable, k: u16) -> u8
+    requires { ⌜ Placed (now file) at ⌝ }
+    ensures { λ r. ⌜ r ≡ getD (now (rules .entry)) (stepAt (decoded (now (file .entry))) k .rule) 0 ⌝ }
+    ensures { λ r. ⌜ stepAt (decoded (now (file .entry))) k .rule < 256 ⌝ }
+{
+    if at.steps <= k {
+        return rules[0];
+    }
+    let s = step(file, at, k);
+    rules[s.rule as usize]
+}
+
+// The steps in turn, each by the rule that its number stands for, and then whether the last one says "unsolvable". A rule is looked up
+// one step ahead: a step's branches go by it, and the processor, which guesses them, learns the sooner where it was wrong.
 fn check_steps(file: &[u8], at: Places, index: &Index, rules: &RuleTable) -> Reply
     requires { ⌜ Placed (now file) at ⌝ }
     requires { ⌜ Known (now file) (now index) ⌝ }
@@ -48,10 +63,12 @@ fn check_steps(file: &[u8], at: Places, index: &Index, rules: &RuleTable) -> Rep
 {
     let count = at.steps;
     let mut said = Judgement::Dead(0);
+    let mut next = rule_of(file, at, rules, 0);
     let mut k = 0u16;
     while k < count {
         let s = step(file, at, k);
-        let rule = rules[s.rule as usize];
+        let rule = next;
+        next = rule_of(file, at, rules, k + 1);
         match check_step(file, at, index, k, rule, s) {
             StepReply::Passed => {}
             StepReply::Refused(number) => {

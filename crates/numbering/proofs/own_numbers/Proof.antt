@@ -18,21 +18,6 @@ abbrev μ-loop : tie.MeasureT-loop
 loop-holds : tie.Need-loop-holds Inv-loop μ-loop
 loop-holds c = (search needs, search needs, λ y l. absurd (omega arith))
 
-cast-rules : tie.Need-cast-rules Inv-loop μ-loop
-cast-rules c = search needs
-
-cast-rules-2 : tie.Need-cast-rules-2 Inv-loop μ-loop
-cast-rules-2 c = search needs
-
-array-write-rules : tie.Need-array-write-rules Inv-loop μ-loop
-array-write-rules c = search needs
-
-add-x : tie.Need-add-x Inv-loop μ-loop
-add-x c = search needs
-
-loop-less : tie.Need-loop-less Inv-loop μ-loop
-loop-less c = search needs
-
 loop-again : tie.Need-loop-again Inv-loop μ-loop
 loop-again c =
     let g = c .before .loop in
@@ -43,15 +28,6 @@ returns c x l = c .before .loop .inv .2 x (search needs)
 
 pub own-numbers-spec : {M : Type 1} → statement M
 own-numbers-spec =
-    tie.close
-    (tie.spec
-    Inv-loop
-    μ-loop
-    loop-holds
-    cast-rules
-    cast-rules-2
-    array-write-rules
-    add-x
-    loop-less
-    loop-again
-    returns)
+    tie.close (tie.spec
+    Inv-loop μ-loop loop-holds (λ c. search needs) (λ c. search needs) (λ c. search needs) (λ c. search needs) (λ c. search needs)
+    loop-again returns)
