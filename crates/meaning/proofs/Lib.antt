@@ -24,7 +24,7 @@ pub mod Same
 pub mod Matching
 pub mod Holds
 pub mod Computed
-pub mod Alike
+pub mod RuleBytes
 pub mod Numbering
 pub mod Renumber
 pub mod Points

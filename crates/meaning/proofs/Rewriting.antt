@@ -27,7 +27,7 @@ use Rattle.meaning.proofs.WrittenBytes.{file-bytes}
 use Rattle.meaning.proofs.Computed.{computed}
 use Rattle.meaning.proofs.WritesBack.{writes-back}
 use Rattle.meaning.proofs.Judgements.{accepted-out, file-safe}
-use Rattle.meaning.proofs.Alike.{count-stays, files-alike, rewritten-same, rewritten-twice}
+use Rattle.meaning.proofs.RuleBytes.{count-stays, files-alike, rewritten-same, rewritten-twice}
 use Rattle.meaning.proofs.Numbering.{meant-back}
 
 -- ---- the bytes

@@ -35,7 +35,7 @@ use Rattle.meaning.specs.Reply.{checkSteps, checkFile, replyTo, replyOf}
 use Rattle.meaning.specs.Numbering.{checkNumbers, ruleMeant, withRule, rewritten, checkRewritten, replyNumbered}
 use Rattle.numbering.specs.Table.{Stands}
 use Rattle.meaning.proofs.Results.{bind-same}
-use Rattle.meaning.proofs.Alike.{count-stays, step-stays, step-renamed, checked-same, rewritten-same}
+use Rattle.meaning.proofs.RuleBytes.{count-stays, step-stays, step-renamed, checked-same, rewritten-same}
 
 -- ---- a step's refusal names the step
 
