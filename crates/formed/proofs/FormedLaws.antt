@@ -1,6 +1,6 @@
 -- The tests of reply 8 as the code makes them, of a step's value.
 -- Assumes nothing.
-use mathlib.Core.Path.{_≡_, refl, sym, subst}
+use mathlib.Core.Path.{_≡_, refl, sym, ap, _∙_, subst}
 use Prim.Native.Nat.{ℕ, zero, suc, _+_, _-_, _*_, _%_, _^_, _≤_, _<_}
 use native.Mathlib.Nat.{pow-le-pow-right}
 use native.Mathlib.Omega.{arith}
@@ -66,96 +66,81 @@ shifted n l = shifted-one (48 - 16 * n) (omega arith)
 pub not-none : (n : ℕ) → n < 4 → 0 < 1 * 2 ^ (48 - 16 * n) % 18446744073709551616
 not-none n l = rw (shifted n l) (pow-le-pow-right {n = 2} (omega arith) {i = 0} {j = 48 - 16 * n} (omega arith))
 
--- premises: three places as one number, of which the end is unused
+-- two tests that pass or fail together
+same-test : (x y : ℕ) → (x ≡ 0 → y ≡ 0) → (y ≡ 0 → x ≡ 0) → eqb x 0 ≡ eqb y 0
+same-test x y f g = both-ways (eqb x 0) (eqb y 0) (λ t. same (f (eqb→eq x 0 t))) (λ t. same (g (eqb→eq y 0 t)))
+
+both-zero : (x y : ℕ) → eqb (x * 65536 + y) 0 ≡ (eqb x 0 && eqb y 0)
+both-zero x y =
+    both-ways (eqb (x * 65536 + y) 0) (eqb x 0 && eqb y 0)
+    (λ t.
+    let e = eqb→eq (x * 65536 + y) 0 t in
+    let f : x ≡ 0 = omega arith in
+    let g : y ≡ 0 = omega arith in
+    and-in (eqb x 0) (eqb y 0) (same f) (same g))
+    (λ t.
+    let h = and-out (eqb x 0) (eqb y 0) t in
+    let f = eqb→eq x 0 (h .0) in
+    let g = eqb→eq y 0 (h .1) in
+    let e : x * 65536 + y ≡ 0 = omega arith in
+    same e)
+
+-- a test that follows from two others
+implied-test : (t u z : Bool) → (T t → T z → T u) → (z && (t && u)) ≡ (t && z)
+implied-test true u true h = is-true u (h tt tt)
+implied-test true u false h = refl
+implied-test false u z h = and-false z
+
+-- premises: three places as one number, of which the end is unused. A place that is zero is an earlier step where another one is
 module _ (a b c i : ℕ) (la : a < 65536) (lb : b < 65536) (lc : c < 65536) where
   abbrev places : ℕ
   places = a * 4294967296 + b * 65536 + c
 
-  abbrev all-earlier : Bool
-  all-earlier = (ltb a i && ltb b i) && ltb c i
-
-  abbrev Fit : ℕ → Bool → Type 0
-  Fit n t = t ≡ (every (λ p. ltb p i) (take n (a ∷ b ∷ c ∷ [])) && every (λ p. eqb p 0) (drop n (a ∷ b ∷ c ∷ [])))
-
-  earlier-out : T all-earlier → (a < i) × (b < i) × (c < i)
-  earlier-out t =
-      let h = and-out (ltb a i && ltb b i) (ltb c i) t in
-      let g = and-out (ltb a i) (ltb b i) (h .0) in
-      (ltb→lt a i (g .0), ltb→lt b i (g .1), ltb→lt c i (h .1))
-
-  earlier-in : a < i → b < i → c < i → T all-earlier
-  earlier-in x y z = and-in (ltb a i && ltb b i) (ltb c i) (and-in (ltb a i) (ltb b i) (lt→ltb a i x) (lt→ltb b i y)) (lt→ltb c i z)
+  abbrev two : Bool
+  two = ltb a i && ltb b i
 
   -- what is tested where n premises are used
   abbrev Tested : ℕ → Bool
-  Tested n = eqb (places % 2 ^ (48 - 16 * n)) 0 && (eqb n 0 || all-earlier)
+  Tested n = eqb (places % 2 ^ (48 - 16 * n)) 0 && (eqb n 0 || (two && ltb c i))
 
-  fit-none : Fit 0 (Tested 0)
+  abbrev Fit : ℕ → Type 0
+  Fit n = Tested n ≡ (every (λ p. ltb p i) (take n (a ∷ b ∷ c ∷ [])) && every (λ p. eqb p 0) (drop n (a ∷ b ∷ c ∷ [])))
+
+  zero-earlier : (p : ℕ) → T (ltb a i) → T (eqb p 0) → T (ltb p i)
+  zero-earlier p t z = let l = ltb→lt a i t in let e = eqb→eq p 0 z in lt→ltb p i (omega arith)
+
+  last-earlier : T two → T (eqb c 0) → T (ltb c i)
+  last-earlier t = zero-earlier c (and-out (ltb a i) (ltb b i) t .0)
+
+  fit-none : Fit 0
   unfolding every
   fit-none =
-      both-ways _ _
-      (λ t.
-      let e : places % 281474976710656 ≡ 0 = eqb→eq _ 0 (and-out (eqb (places % 281474976710656) 0) true t .0) in
-      let a₀ : a ≡ 0 = omega arith in
-      let b₀ : b ≡ 0 = omega arith in
-      let c₀ : c ≡ 0 = omega arith in
-      and-in (eqb a 0) _ (same a₀) (and-in (eqb b 0) _ (same b₀) (and-in (eqb c 0) true (same c₀) tt)))
-      (λ t.
-      let h = and-out (eqb a 0) _ t in
-      let g = and-out (eqb b 0) _ (h .1) in
-      let a₀ = eqb→eq a 0 (h .0) in
-      let b₀ = eqb→eq b 0 (g .0) in
-      let c₀ = eqb→eq c 0 (and-out (eqb c 0) true (g .1) .0) in
-      let e : places % 281474976710656 ≡ 0 = omega arith in
-      and-in (eqb (places % 281474976710656) 0) true (same e) tt)
+      let e = same-test (places % 281474976710656) ((a * 65536 + b) * 65536 + c) (λ e. omega arith) (λ e. omega arith) in
+      rw (e, both-zero (a * 65536 + b) c, both-zero a b) (simp (and-assoc, and-true))
 
-  fit-one : Fit 1 (Tested 1)
+  fit-one : Fit 1
   unfolding every
   fit-one =
-      both-ways _ _
-      (λ t.
-      let h = and-out (eqb (places % 4294967296) 0) all-earlier t in
-      let e : places % 4294967296 ≡ 0 = eqb→eq _ 0 (h .0) in
-      let b₀ : b ≡ 0 = omega arith in
-      let c₀ : c ≡ 0 = omega arith in
-      and-in (ltb a i && true) _ (and-in (ltb a i) true (lt→ltb a i (earlier-out (h .1) .0)) tt)
-      (and-in (eqb b 0) _ (same b₀) (and-in (eqb c 0) true (same c₀) tt)))
-      (λ t.
-      let h = and-out (ltb a i && true) _ t in
-      let x = ltb→lt a i (and-out (ltb a i) true (h .0) .0) in
-      let g = and-out (eqb b 0) _ (h .1) in
-      let b₀ = eqb→eq b 0 (g .0) in
-      let c₀ = eqb→eq c 0 (and-out (eqb c 0) true (g .1) .0) in
-      let e : places % 4294967296 ≡ 0 = omega arith in
-      and-in (eqb (places % 4294967296) 0) all-earlier (same e) (earlier-in x (omega arith) (omega arith)))
+      let y = eqb b 0 in
+      let z = eqb c 0 in
+      let e = same-test (places % 4294967296) (b * 65536 + c) (λ e. omega arith) (λ e. omega arith) in
+      ap (λ (t : Bool). t && (two && ltb c i)) (e ∙ both-zero b c) ∙ and-assoc y z (two && ltb c i)
+      ∙ ap (λ (t : Bool). y && t) (implied-test two (ltb c i) z last-earlier) ∙ sym (and-assoc y two z)
+      ∙ ap (λ (t : Bool). t && z) (implied-test (ltb a i) (ltb b i) y (zero-earlier b)) ∙ simp (and-assoc, and-true)
 
-  fit-two : Fit 2 (Tested 2)
+  fit-two : Fit 2
   unfolding every
   fit-two =
-      both-ways _ _
-      (λ t.
-      let h = and-out (eqb (places % 65536) 0) all-earlier t in
-      let e : places % 65536 ≡ 0 = eqb→eq _ 0 (h .0) in
-      let c₀ : c ≡ 0 = omega arith in
-      let x = earlier-out (h .1) in
-      and-in (ltb a i && (ltb b i && true)) _
-      (and-in (ltb a i) _ (lt→ltb a i (x .0)) (and-in (ltb b i) true (lt→ltb b i (x .1)) tt)) (and-in (eqb c 0) true (same c₀) tt))
-      (λ t.
-      let h = and-out (ltb a i && (ltb b i && true)) _ t in
-      let g = and-out (ltb a i) _ (h .0) in
-      let x = ltb→lt a i (g .0) in
-      let y = ltb→lt b i (and-out (ltb b i) true (g .1) .0) in
-      let c₀ = eqb→eq c 0 (and-out (eqb c 0) true (h .1) .0) in
-      let e : places % 65536 ≡ 0 = omega arith in
-      and-in (eqb (places % 65536) 0) all-earlier (same e) (earlier-in x y (omega arith)))
+      let e = same-test (places % 65536) c (λ e. omega arith) (λ e. omega arith) in
+      ap (λ (t : Bool). t && (two && ltb c i)) e ∙ implied-test two (ltb c i) (eqb c 0) last-earlier ∙ simp (and-assoc, and-true)
 
-  fit-three : Fit 3 (Tested 3)
+  fit-three : Fit 3
   unfolding every
   fit-three =
       let e : places % 1 ≡ 0 = omega arith in
       rw (is-true (eqb (places % 1) 0) (same e)) (simp (and-assoc, and-true))
 
-  pub places-fit : (n : ℕ) → n < 4 → Fit n (Tested n)
+  pub places-fit : (n : ℕ) → n < 4 → Fit n
   places-fit zero l = fit-none
   places-fit (suc zero) l = fit-one
   places-fit (suc (suc zero)) l = fit-two

@@ -34,6 +34,16 @@ fn refusal_code(number: u8, place: u64) -> u64
     number as u64 * 4294967296 + place_of(place)
 }
 
+// A reply as one number.
+fn reply_code(reply: Reply) -> u64
+    ensures { λ r. ⌜ r ≡ codeOf reply ⌝ }
+{
+    match reply {
+        Reply::Accepted => 0,
+        Reply::Refused { number, place } => refusal_code(number, place),
+    }
+}
+
 // Whether a file's certificate shows that its task is safe: 0 where it does, else the refusal.
 #[no_mangle]
 pub extern "C" fn certificate_check(file: &[u8]) -> u64
@@ -41,10 +51,7 @@ pub extern "C" fn certificate_check(file: &[u8]) -> u64
     ensures safe { λ r. ⌜ (r ≡ 0 → (f : File) × (readFile (now (file .entry)) ≡ found f) × Safe (f .task)) ⌝ }
     ensures untouched { λ r. ⌜ now (file .exit) ≡ now (file .entry) ⌝ }
 {
-    match check(file) {
-        Reply::Accepted => 0,
-        Reply::Refused { number, place } => refusal_code(number, place),
-    }
+    reply_code(check(file))
 }
 
 // The same for a file whose steps have the rule numbers of a list, the k-th of which stands for rule k.
@@ -55,10 +62,7 @@ pub extern "C" fn certificate_check_numbered(file: &[u8], numbers: &[u8]) -> u64
     ensures untouched { λ r. ⌜ now (file .exit) ≡ now (file .entry) ⌝ }
     ensures list_untouched { λ r. ⌜ now (numbers .exit) ≡ now (numbers .entry) ⌝ }
 {
-    match check_numbered(file, numbers) {
-        Reply::Accepted => 0,
-        Reply::Refused { number, place } => refusal_code(number, place),
-    }
+    reply_code(check_numbered(file, numbers))
 }
 
 // Whether a state is in the set of an entry of a file: 0 where it is out, 1 where it is in, else the refusal.

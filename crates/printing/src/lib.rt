@@ -43,8 +43,9 @@ fn refused_line(number: u8, place: u64, line: &mut [u8]) -> usize
     ensures { λ r. ⌜ Counts r (now (line .exit)) ⌝ }
     ensures { λ r. ⌜ RefusedLine number place (take r (now (line .exit))) ⌝ }
 {
+    let number = number as u64;
     let word = put(line, 0, b"refused ");
-    let first = put_number(line, word, number as u64);
+    let first = put_number(line, word, number);
     let space = put(line, first, b" ");
     let second = put_number(line, space, place);
     put(line, second, b"\n")
