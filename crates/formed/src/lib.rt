@@ -41,8 +41,8 @@ fn entries_fit(states: u16, actions: u16, j: Judgement) -> bool
 }
 
 // Whether the premises of step k, of which so many are used, are earlier steps, and unused places are zero. The three places are one
-// number, whose end is unused; there is no branch, since the processor could not guess it. Where unused places are zero they are
-// earlier steps too, unless k is 0.
+// number, whose end is unused: no branch goes by how many are used. Where unused places are zero they are earlier steps too, unless k
+// is 0.
 fn premises_fit(count: u8, a: u16, b: u16, c: u16, k: u16) -> bool
     requires { ⌜ count < 4 ⌝ }
     ensures { λ r. ⌜ r ≡ (every (λ p. ltb p k) (take count (a ∷ b ∷ c ∷ [])) && every (λ p. eqb p 0) (drop count (a ∷ b ∷ c ∷ []))) ⌝ }

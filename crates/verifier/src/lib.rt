@@ -55,7 +55,7 @@ fn rule_of(file: &[u8], at: Places, rules: &RuleTable, k: u16) -> u8
 }
 
 // The steps in turn, each by the rule that its number stands for, and then whether the last one says "unsolvable". A rule is looked up
-// one step ahead: a step's branches go by it, and the processor, which guesses them, learns the sooner where it was wrong.
+// one step ahead, so that it is there when the step's branches go by it.
 fn check_steps(file: &[u8], at: Places, index: &Index, rules: &RuleTable) -> Reply
     requires { ⌜ Placed (now file) at ⌝ }
     requires { ⌜ Known (now file) (now index) ⌝ }
