@@ -1,9 +1,11 @@
--- Replies and answers as one number. Document 01's refusal numbers start at 1, so no refusal's code is 0 or 1
--- (proofs/CodeLaws.antt).
+-- Replies, rounds and answers as one number. The refusal numbers start at 1, so that every refusal's code is 2^32 or more, and a step's
+-- number is below 2,048 (proofs/CodeLaws.antt).
 -- Assumes nothing.
 use Prim.Native.Nat.{ℕ, _+_, _*_, min}
 use Rattle.meaning.specs.declared.Reply.{Reply}
 use Rattle.meaning.specs.declared.Reply.the-variants.{Accepted, Refused}
+use Rattle.meaning.specs.declared.Round.{Round}
+use Rattle.meaning.specs.declared.Round.the-variants as round
 use Rattle.meaning.specs.declared.Answer.{Answer}
 use Rattle.meaning.specs.declared.Answer.the-variants as answer
 
@@ -14,6 +16,11 @@ refusalCode number place = number * 4294967296 + min place 4294967295
 unfoldable pub codeOf : Reply → ℕ
 codeOf Accepted = 0
 codeOf (Refused number place) = refusalCode number place
+
+unfoldable pub roundCodeOf : Round → ℕ
+roundCodeOf round.Ended = 0
+roundCodeOf (round.GoOn step) = step
+roundCodeOf (round.Refused number place) = refusalCode number place
 
 unfoldable pub answerCodeOf : Answer → ℕ
 answerCodeOf answer.Out = 0

@@ -1,11 +1,13 @@
-// The checker and the question for programs in C or Rust: each reply as one number.
+// The checker, whole and in rounds, and the question for programs in C or Rust: each reply as one number.
 use meaning::Answer;
 use meaning::Reply;
+use meaning::Round;
 use question::ask;
 use verifier::check;
 use verifier::check_numbered;
+use verifier::check_round;
 ghost use mathlib.Core.Path.{_≡_};
-ghost use Prim.Native.Nat.{min};
+ghost use Prim.Native.Nat.{min, _<_};
 ghost use Rattle.task.specs.Reach.{Safe};
 ghost use Rattle.meaning.specs.Result.{found};
 ghost use Rattle.meaning.specs.File.{File};
@@ -13,8 +15,10 @@ ghost use Rattle.meaning.specs.Layout.{readFile};
 ghost use Rattle.meaning.specs.declared.Answer.the-variants.{In, Out};
 ghost use Rattle.meaning.specs.Reply.{replyOf};
 ghost use Rattle.meaning.specs.Numbering.{replyNumbered};
+ghost use Rattle.meaning.specs.declared.Round.the-variants.{Ended, GoOn};
+ghost use Rattle.meaning.specs.Rounds.{roundOf};
 ghost use Rattle.meaning.specs.Question.{answerOf};
-ghost use Rattle.link.specs.Code.{refusalCode, codeOf, answerCodeOf};
+ghost use Rattle.link.specs.Code.{refusalCode, codeOf, roundCodeOf, answerCodeOf};
 
 // A place as 32 bits hold it.
 fn place_of(place: u64) -> u64
@@ -63,6 +67,21 @@ pub extern "C" fn certificate_check_numbered(file: &[u8], numbers: &[u8]) -> u64
     ensures list_untouched { λ r. ⌜ now (numbers .exit) ≡ now (numbers .entry) ⌝ }
 {
     reply_code(check_numbered(file, numbers))
+}
+
+// One round of a check, of `count` steps from step `from` on: 0 where the last step was reached and says "unsolvable", else the step to
+// go on from, which is below 2,048, or the refusal. A 0 says nothing of the steps before `from`.
+#[no_mangle]
+pub extern "C" fn certificate_round(file: &[u8], from: u64, count: u64) -> u64
+    ensures code { λ r. ⌜ r ≡ roundCodeOf (roundOf (now (file .entry)) from count) ⌝ }
+    ensures told { λ r. ⌜ (r ≡ 0 → roundOf (now (file .entry)) from count ≡ Ended) × (0 < r → r < 4294967296 → (roundOf (now (file .entry)) from count ≡ GoOn r) × (r < 2048)) ⌝ }
+    ensures untouched { λ r. ⌜ now (file .exit) ≡ now (file .entry) ⌝ }
+{
+    match check_round(file, from, count) {
+        Round::Ended => 0,
+        Round::GoOn(step) => step,
+        Round::Refused { number, place } => refusal_code(number, place),
+    }
 }
 
 // Whether a state is in the set of an entry of a file: 0 where it is out, 1 where it is in, else the refusal.

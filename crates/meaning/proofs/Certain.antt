@@ -33,7 +33,7 @@ use Rattle.meaning.proofs.Sets.{within, progression-iff}
 use Rattle.meaning.proofs.TaskBounds.{fits-bounded}
 use Rattle.meaning.specs.Step.{checkStep}
 use Rattle.meaning.specs.declared.Reply.the-variants.{Accepted}
-use Rattle.meaning.specs.Reply.{checkSteps, checkFile, replyTo, replyOf}
+use Rattle.meaning.specs.Reply.{checkSteps, checkFrom, checkFile, replyTo, replyOf}
 use Rattle.meaning.specs.Certain.{stepOf, theActionSets, theStateSets, theSteps, certificateOf}
 use Rattle.meaning.specs.Points.{CertainCertificate, SafeIsAccepted}
 use Rattle.meaning.proofs.Computed.{computed}
@@ -120,7 +120,7 @@ module _ (t : Task) (ss : List ℕ) (lists : (s : ℕ) → T (member s ss) ↔ R
   derived = (refl, refl, refl, refl, refl, refl)
 
   steps-pass : checkFile f ≡ found tt
-  unfolding checkFile checkSteps stepAt
+  unfolding checkFile checkFrom checkSteps stepAt
   steps-pass =
       let d = derived in
       bind-in _

@@ -19,9 +19,10 @@ use Rattle.meaning.specs.Rules.{rules, patternKind}
 use Rattle.meaning.specs.Match.{noLetters, _then_, given, withLetter, standsFor, ofKind, ofActionKind, matchᴬ, match, matchEntries}
 use Rattle.meaning.specs.Match.{matchStep, matchPremises}
 use Rattle.meaning.specs.Step.{judgementKind, premiseCount, allRules, ruleAt, entriesFit, wellFormed, checkBy, checkStep}
-use Rattle.meaning.specs.Reply.{checkSteps, checkFile, replyTo, replyOf}
+use Rattle.meaning.specs.Reply.{checkSteps, checkFrom, checkFile, replyTo, replyOf}
 use Rattle.meaning.specs.Numbering.{checkUnused, checkNumbers, ruleNumbers, ruleFrom, ruleMeant, rewritten, checkRewritten}
 use Rattle.meaning.specs.Numbering.{replyNumbered}
+use Rattle.meaning.specs.Rounds.{lawfulCount, handBack, checkRound, roundTo, roundOf}
 use Rattle.meaning.specs.Cases.{word, withLength, tableBytes, setBytes, stepBytes, firstSteps, allSteps, explicit012, fileBytes}
 use Rattle.meaning.specs.Cases.{sample, cases}
 
@@ -33,7 +34,7 @@ unfolding allOn without actionAt isInit isGoal applies after member every _>>=_ 
     actionsWithin keep theOnly kindAt child leafNode leaves isBasic isComplement isLiteral literalKind complements others movedLeft
     movedRight bracket used ofLiterals ofClauses ofStates permitted shape₁ shapeWith shape₂ shape₃ mixed shape₄ statements rules
     patternKind noLetters _then_ given withLetter standsFor ofKind ofActionKind matchᴬ match matchEntries matchStep matchPremises
-    judgementKind premiseCount allRules ruleAt entriesFit wellFormed checkBy checkStep checkSteps checkFile replyTo replyOf
-    checkUnused checkNumbers ruleNumbers ruleFrom ruleMeant rewritten checkRewritten replyNumbered word
-    withLength tableBytes setBytes stepBytes firstSteps allSteps explicit012 fileBytes sample cases
+    judgementKind premiseCount allRules ruleAt entriesFit wellFormed checkBy checkStep checkSteps checkFrom checkFile replyTo replyOf
+    checkUnused checkNumbers ruleNumbers ruleFrom ruleMeant rewritten checkRewritten replyNumbered lawfulCount
+    handBack checkRound roundTo roundOf word withLength tableBytes setBytes stepBytes firstSteps allSteps explicit012 fileBytes sample cases
 computed = tt

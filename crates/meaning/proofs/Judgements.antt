@@ -22,7 +22,7 @@ use Rattle.meaning.proofs.TaskBounds.{fits-bounded}
 use Rattle.meaning.specs.Step.{checkStep}
 use Rattle.meaning.proofs.Holds.{HoldsAs, Holds, step-holds}
 use Rattle.meaning.specs.declared.Reply.the-variants.{Accepted}
-use Rattle.meaning.specs.Reply.{checkSteps, checkFile, replyTo, replyOf}
+use Rattle.meaning.specs.Reply.{checkSteps, checkFrom, checkFile, replyTo, replyOf}
 use Rattle.meaning.specs.Points.{Judged, JudgementsTrue, AcceptedIsSafe}
 
 -- ---- all steps
@@ -75,7 +75,7 @@ accepted-out (found tt) e = refl
 
 -- the last step of a file that passes is "unsolvable", and it holds
 pub file-safe : (f : File) → Ordered f → Bounded (f .task) → 0 < length (f .steps) → checkFile f ≡ found tt → Safe (f .task)
-unfolding checkFile
+unfolding checkFile checkFrom
 file-safe f o b p e =
     let c = bind-out (checkSteps f 0 (f .steps)) _ tt e in
     let n : ℕ = length (f .steps) - 1 in

@@ -30,6 +30,9 @@ pub mod Renumber
 pub mod Points
 pub mod Judgements
 pub mod Rewriting
+pub mod Outside
+pub mod Rounds
+pub mod Runs
 pub mod Certain
 pub mod Shallow
 pub mod Refusals

@@ -11,15 +11,20 @@ use Rattle.meaning.specs.Certain.{certificateOf}
 use Rattle.meaning.specs.Points.{SampleLength, TwelveCases, RulesSound, JudgementsTrue, AcceptedIsSafe, SafeIsAccepted}
 use Rattle.meaning.specs.Points.{CertainCertificate, SampleForm, ReadsWithin, ReadsBack, WritesBack, Shortcut, RefusalNumbers}
 use Rattle.meaning.specs.Points.{AnswerNumbers, ListFaults, PlainNumbers, Renumbered, RewritingIsBijective, RewrittenIsRead}
-use Rattle.meaning.specs.Points.{RewrittenAlike, NumberedIsSafe, NumberedRefusals}
+use Rattle.meaning.specs.Points.{RewrittenAlike, NumberedIsSafe, NumberedRefusals, OneRound, RunIsCheck, RunEnds, FewestRounds}
+use Rattle.meaning.specs.Points.{HandsBack, RunIsSafe, RoundSays, EndsElsewhere, OutsideEntries, RoundCases, QuestionsBetween}
+use Rattle.meaning.specs.Points.{OutsideFitsLetters, RoundRefusals}
 use Rattle.meaning.proofs.Computed.{computed}
 use Rattle.meaning.proofs.Judgements.{judgements-true, accepted-is-safe}
 use Rattle.meaning.proofs.Certain.{certain-certificate, safe-is-accepted}
 use Rattle.meaning.proofs.Shallow.{shortcut}
-use Rattle.meaning.proofs.Refusals.{refusal-numbers, numbered-refusals, answer-numbers}
+use Rattle.meaning.proofs.Refusals.{refusal-numbers, numbered-refusals, round-refusals, answer-numbers}
 use Rattle.meaning.proofs.WritesBack.{writes-back}
 use Rattle.meaning.proofs.Renumber.{renumbered}
 use Rattle.meaning.proofs.Rewriting.{plain-numbers, rewriting-is-bijective, rewritten-is-read, rewritten-alike, numbered-is-safe}
+use Rattle.meaning.proofs.Outside.{outside-fits-letters}
+use Rattle.meaning.proofs.Rounds.{round-says, hands-back, one-round}
+use Rattle.meaning.proofs.Runs.{run-is-check, run-ends, run-is-safe, fewest-rounds, questions-between}
 
 pub the-sample-has-234-bytes : SampleLength
 unfolding computed
@@ -91,3 +96,45 @@ a-file-accepted-with-a-list-is-safe = numbered-is-safe
 
 pub a-refusal-with-a-list-has-its-number : NumberedRefusals
 a-refusal-with-a-list-has-its-number = numbered-refusals
+
+pub a-whole-check-is-one-round : OneRound
+a-whole-check-is-one-round = one-round
+
+pub a-run-ends-with-the-reply-of-a-check : RunIsCheck
+a-run-ends-with-the-reply-of-a-check = run-is-check
+
+pub a-run-ends-within-2048-rounds : RunEnds
+a-run-ends-within-2048-rounds = run-ends
+
+pub a-run-takes-as-few-rounds-as-cover-its-steps : FewestRounds
+a-run-takes-as-few-rounds-as-cover-its-steps = fewest-rounds
+
+pub a-round-hands-back-the-next-step : HandsBack
+a-round-hands-back-the-next-step = hands-back
+
+pub a-file-whose-run-ends-is-safe : RunIsSafe
+a-file-whose-run-ends-is-safe = run-is-safe
+
+pub a-round-says-that-its-steps-pass : RoundSays
+a-round-says-that-its-steps-pass = round-says
+
+pub a-round-says-nothing-of-earlier-steps : EndsElsewhere
+unfolding computed
+a-round-says-nothing-of-earlier-steps = (refl, refl)
+
+pub a-number-outside-fits-letters-alone : OutsideFitsLetters
+a-number-outside-fits-letters-alone = outside-fits-letters
+
+pub a-premise-may-name-no-entry : OutsideEntries
+unfolding computed
+a-premise-may-name-no-entry = (refl, refl)
+
+pub the-sample-is-checked-in-rounds : RoundCases
+unfolding computed
+the-sample-is-checked-in-rounds = (refl, refl, refl, refl, refl, refl, refl, refl, refl)
+
+pub questions-change-nothing-in-a-run : QuestionsBetween
+questions-change-nothing-in-a-run = questions-between
+
+pub a-refused-round-has-its-number : RoundRefusals
+a-refused-round-has-its-number = round-refusals

@@ -1,4 +1,4 @@
--- The numbers of refusals: 1 to 12 from the checker, and 18 of a caller's list; 1 to 7 or 13 from the question.
+-- The numbers of refusals: 1 to 12 from the checker, 17 of a round's numbers, and 18 of a caller's list; 1 to 7 or 13 from the question.
 -- Assumes nothing.
 use mathlib.Core.Path.{_≡_, refl, subst}
 use Prim.Native.Nat.{ℕ, zero, suc, _+_, _-_, _/_, _≤_}
@@ -6,9 +6,9 @@ use mathlib.Core.Bool.{Bool, true, false, _&&_}
 use mathlib.Core.Logic.{_⊎_, inl, inr}
 use mathlib.Core.Option.{Option, none, some}
 use mathlib.Core.List.{List, [], _∷_, _++_}
-use lib.ListN.{getElem?}
+use lib.ListN.{length, getElem?}
 use native.Mathlib.Omega.{arith}
-use lib.Dec.{T, leb, leb→le}
+use lib.Dec.{T, leb, ltb, leb→le}
 use Rattle.meaning.specs.Result.{Result, refuse, found, _>>=_, need, known}
 use Rattle.meaning.specs.File.{Step, File}
 use Rattle.meaning.specs.Layout.{items, ascending, field, count, mask, reference, action, clause, step, Kind, plain, one, two}
@@ -16,11 +16,13 @@ use Rattle.meaning.specs.Layout.{clauses, actionKinds, stateKinds, entry
 use Rattle.meaning.specs.Rules.{_⊢_}
 use Rattle.meaning.specs.Step.{Check, statement, derivation, checkBy, checkStep}
 use Rattle.meaning.specs.declared.Reply.the-variants.{Refused}
-use Rattle.meaning.specs.Reply.{checkSteps, checkFile, replyTo, replyOf}
+use Rattle.meaning.specs.Reply.{checkSteps, checkLast, checkFrom, checkFile, replyTo, replyOf}
 use Rattle.meaning.specs.declared.Answer.the-variants as answer
 use Rattle.meaning.specs.Question.{answerTo, answerOf}
 use Rattle.meaning.specs.Numbering.{checkUnused, checkNumbers, ruleMeant, rewritten, checkRewritten, replyNumbered}
-use Rattle.meaning.specs.Points.{RefusalNumbers, NumberedRefusals, AnswerNumbers}
+use Rattle.meaning.specs.declared.Round.the-variants as round
+use Rattle.meaning.specs.Rounds.{handBack, checkRound, roundTo, roundOf}
+use Rattle.meaning.specs.Points.{RefusalNumbers, NumberedRefusals, RoundRefusals, AnswerNumbers}
 use Rattle.meaning.proofs.Results.{and-out}
 
 module _ (ok : ℕ → Type 0) where
@@ -257,7 +259,7 @@ module _ (f : File) where
       (λ _. steps-ok (suc i) ss)
 
   check-ok : Numbered OfCheck (checkFile f)
-  unfolding checkFile
+  unfolding checkFile checkFrom
   check-ok = then-ok OfCheck _ _ (steps-ok 0 _) (λ _. need-ok OfCheck _ 12 _ (of-check 12 tt))
 
 -- ---- replies and answers
@@ -301,6 +303,53 @@ numbered-refusals bytes numbers =
     reply-number OfNumbered _
     (then-ok OfNumbered _ _ (numbers-ok OfNumbered (inr refl) numbers) (λ _.
     then-ok OfNumbered _ _ (also (readFile bytes) (read-ok bytes)) (λ f. also (checkFile (rewritten (ruleMeant numbers) f)) (check-ok _))))
+
+-- ---- rounds
+
+-- a refusal of a file, or 17 at 0
+abbrev OfRound : {A : Type 0} → Result A → Type 0
+OfRound (refuse r p) = OfCheck r ⊎ ((r ≡ 17) × (p ≡ 0))
+OfRound (found a) = Unit {0}
+
+of-round : {A : Type 0} (x : Result A) → Numbered OfCheck x → OfRound x
+of-round (refuse r p) h = inl h
+of-round (found a) h = tt
+
+then-round : {A B : Type 0} (x : Result A) (g : A → Result B) → Numbered OfCheck x → ((a : A) → OfRound (g a)) → OfRound (x >>= g)
+unfolding _>>=_
+then-round (refuse r p) g h k = inl h
+then-round (found a) g h k = k a
+
+need-round : {B : Type 0} (b : Bool) (g : Unit {0} → Result B) → OfRound (g tt) → OfRound (need b 17 0 >>= g)
+unfolding need _>>=_
+need-round true g h = h
+need-round false g h = inr (refl, refl)
+
+hand-back-ok : (f : File) (n : ℕ) → Numbered OfCheck (handBack f n)
+unfolding handBack
+hand-back-ok f n = go (ltb n (length (f .steps)))
+  where
+    go : (b : Bool) → Numbered OfCheck {A = Option ℕ} (elim b [ true ↦ found (some n) | false ↦ checkLast f >>= λ _. found none ])
+    go true = tt
+    go false = then-ok OfCheck _ _ (need-ok OfCheck _ 12 _ (of-check 12 tt)) (λ _. tt)
+
+round-number : (x : Result (Option ℕ)) → OfRound x → (r p : ℕ) → roundTo x ≡ round.Refused r p → OfCheck r ⊎ ((r ≡ 17) × (p ≡ 0))
+unfolding roundTo
+round-number (refuse n q) h r p e =
+    let a : n ≡ r = cc in
+    let b : q ≡ p = cc in
+    subst (λ (m : ℕ). OfCheck m ⊎ ((m ≡ 17) × (p ≡ 0))) a (subst (λ (m : ℕ). OfCheck n ⊎ ((n ≡ 17) × (m ≡ 0))) b h)
+round-number (found none) h r p e = let z : _≡_ {A = ℕ} 0 1 = cc in absurd (omega arith)
+round-number (found (some n)) h r p e = let z : _≡_ {A = ℕ} 0 1 = cc in absurd (omega arith)
+
+pub round-refusals : RoundRefusals
+unfolding roundOf checkRound
+round-refusals bytes from count =
+    round-number _
+    (then-round _ _ (read-ok bytes) (λ f.
+    need-round _ _ (then-round _ _ (steps-ok f from _) (λ _. of-round (handBack f (from + count)) (hand-back-ok f (from + count))))))
+
+-- ---- questions
 
 abbrev OfQuestion : ℕ → Type 0
 OfQuestion r = ((1 ≤ r) × (r ≤ 7)) ⊎ (r ≡ 13)

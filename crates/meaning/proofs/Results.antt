@@ -46,11 +46,18 @@ unfolding need _>>=_
 need-case true r p g y e k = k tt e
 need-case false r p g y e k = no-found r p y e
 
--- ---- to a value
+-- ---- to a value, or to a refusal
+
+pub bind-found : {A B : Type 0} {r : Result A} (g : A → Result B) {x : A} → r ≡ found x → (r >>= g) ≡ g x
+unfolding _>>=_
+bind-found g e = ap (λ s. s >>= g) e
 
 pub bind-in : {A B : Type 0} {r : Result A} (g : A → Result B) {x : A} {y : B} → r ≡ found x → g x ≡ found y → (r >>= g) ≡ found y
+bind-in g p q = bind-found g p ∙ q
+
+pub bind-refused : {A B : Type 0} {r : Result A} (g : A → Result B) {n p : ℕ} → r ≡ refuse n p → (r >>= g) ≡ refuse n p
 unfolding _>>=_
-bind-in g p q = ap (λ s. s >>= g) p ∙ q
+bind-refused g e = ap (λ s. s >>= g) e
 
 pub need-in : (b : Bool) (r p : ℕ) → T b → need b r p ≡ found tt
 unfolding need
@@ -65,6 +72,12 @@ known-in r p e = ap (λ o. known o r p) e
 
 pub bind-same : {A B : Type 0} {r r′ : Result A} {g g′ : A → Result B} → r ≡ r′ → ((x : A) → g x ≡ g′ x) → (r >>= g) ≡ (r′ >>= g′)
 bind-same {A} {B} {r′ = r′} {g = g} e h = ap (λ (s : Result A). s >>= g) e ∙ ap (λ (k : A → Result B). r′ >>= k) (fun-ext h)
+
+-- one after the other, however they are bracketed
+pub bind-assoc : {A B C : Type 0} (r : Result A) (g : A → Result B) (h : B → Result C) → (r >>= g >>= h) ≡ (r >>= λ x. g x >>= h)
+unfolding _>>=_
+bind-assoc (refuse r p) g h = refl
+bind-assoc (found x) g h = refl
 
 -- ---- two tests in one
 

@@ -21,7 +21,7 @@ use Rattle.meaning.specs.Rules.{Pattern, _⊢_}
 use Rattle.meaning.specs.Match.{Letters, noLetters, ofKind, ofActionKind, matchᴬ, match, matchEntries, matchStep, matchPremises}
 use Rattle.meaning.specs.Step.{Check, statement, derivation, judgementKind, premiseCount, allRules, ruleAt, entriesFit, wellFormed}
 use Rattle.meaning.specs.Step.{checkBy, checkStep}
-use Rattle.meaning.specs.Reply.{checkSteps, checkFile}
+use Rattle.meaning.specs.Reply.{checkSteps, checkFrom, checkFile}
 use Rattle.meaning.specs.Numbering.{withRule, rewritten}
 use Rattle.meaning.proofs.Results.{bind-same}
 use Rattle.meaning.proofs.Letters.{then-same}
@@ -166,7 +166,7 @@ module _ (f : File) where
     count-alike = count-stays g (f .steps) ∙ sym (count-stays h (f .steps))
 
     pub files-alike : checkFile (rewritten g f) ≡ checkFile (rewritten h f)
-    unfolding checkFile
+    unfolding checkFile checkFrom
     files-alike =
         bind-same steps-alike
         (λ _. ap (λ (n : ℕ). need (eqb (stepAt (rewritten g f) (n - 1) .kind) 3) 12 (n - 1)) count-alike

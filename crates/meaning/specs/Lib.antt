@@ -13,6 +13,7 @@ pub mod Step
 pub mod Reply
 pub mod Numbering
 pub mod Question
+pub mod Rounds
 pub mod Cases
 pub mod Certain
 pub mod Points

@@ -3,27 +3,34 @@
 use mathlib.Core.Path.{_≡_}
 use mathlib.Core.Logic.{_↔_, _⊎_}
 use mathlib.Core.Bool.{not, _&&_}
-use Prim.Native.Nat.{ℕ, zero, suc, _≤_, _<_}
+use mathlib.Core.Option.{none}
+use Prim.Native.Nat.{ℕ, zero, suc, _+_, _-_, _*_, _≤_, _<_}
 use mathlib.Core.List.{List, [], _∷_, _++_, map}
-use lib.ListN.{length, take, drop}
+use lib.ListN.{length, take, drop, replicate}
 use lib.Dec.{T, leb}
 use Rattle.task.specs.Task.{Task}
-use Rattle.task.specs.Reach.{member, Safe, Unsolvable, Dead, Reachable, AtMostReachable}
+use Rattle.task.specs.Reach.{member, every, Safe, Unsolvable, Dead, Reachable, AtMostReachable}
 use Rattle.task.specs.System.{System, States, Actions}
 use Rattle.meaning.specs.Result.{found}
 use Rattle.meaning.specs.Bytes.{AreBytes}
 use Rattle.meaning.specs.File.{File, stepAt}
 use Rattle.meaning.specs.Layout.{readFile}
-use Rattle.meaning.specs.Writing.{Ascending, fileOf, writeFile, Fits, Lawful}
+use Rattle.meaning.specs.Writing.{All, Ascending, fileOf, writeFile, Fits, Lawful}
 use Rattle.meaning.specs.Sets.{inSet, statesWithin, actionsWithin}
-use Rattle.meaning.specs.Rules.{rules}
+use Rattle.meaning.specs.Rules.{letter, rules}
+use Rattle.meaning.specs.Match.{Letters, match}
 use Rattle.meaning.specs.Truth.{SoundRules}
+use Rattle.meaning.specs.declared.Reply.{Reply}
 use Rattle.meaning.specs.declared.Reply.the-variants.{Accepted, Refused}
+use Rattle.meaning.specs.declared.Round.the-variants as round
 use Rattle.meaning.specs.declared.Answer.the-variants as answer
-use Rattle.meaning.specs.Reply.{checkSteps, replyOf}
+use Rattle.meaning.specs.Step.{checkStep}
+use Rattle.meaning.specs.Reply.{checkSteps, checkLast, replyTo, replyOf}
 use Rattle.meaning.specs.Numbering.{checkNumbers, ruleNumbers, rewritten, replyNumbered, rewriteBytes, Renumbering}
 use Rattle.meaning.specs.Question.{depth, hasProgression, shallow, answerOf}
-use Rattle.meaning.specs.Cases.{Case, cases, sample}
+use Rattle.meaning.specs.Rounds.{lawfulCount, roundOf, runFrom, run, atEnd, roundsFor, Call, session, countsOf, answersOf}
+use Rattle.meaning.specs.Rounds.{premisesOf, namedSets}
+use Rattle.meaning.specs.Cases.{Case, cases, sample, fileBytes, explicit012, stepBytes, firstSteps, allSteps}
 use Rattle.meaning.specs.Certain.{certificateOf}
 
 -- The sample has 234 bytes, and each of the twelve cases has its reply.
@@ -142,3 +149,97 @@ NumberedIsSafe =
 -- A refusal is one of a file, or 18 of the list.
 abbrev pub NumberedRefusals : Type 0
 NumberedRefusals = (bytes numbers : List ℕ) (r p : ℕ) → replyNumbered bytes numbers ≡ Refused r p → ((1 ≤ r) × (r ≤ 12)) ⊎ (r ≡ 18)
+
+-- ---- document 02, f: a check in rounds
+
+-- The whole check is one round of 2,048 steps from step 0.
+abbrev pub OneRound : Type 0
+OneRound = (bytes : List ℕ) → roundOf bytes 0 2048 ≡ atEnd (replyOf bytes)
+
+-- A run, begun at step 0 and gone on with at the place handed back, ends with the reply of one whole check, whatever counts its rounds
+-- have; and it ends, after 2,048 rounds at the latest.
+abbrev pub RunIsCheck : Type 0
+RunIsCheck = (bytes counts : List ℕ) → T (every lawfulCount counts) → (r : Reply) → run bytes counts ≡ atEnd r → r ≡ replyOf bytes
+
+abbrev pub RunEnds : Type 0
+RunEnds = (bytes counts : List ℕ) → T (every lawfulCount counts) → 2048 ≤ length counts → run bytes counts ≡ atEnd (replyOf bytes)
+
+-- With r steps left, none failing, and the same count k each round, the smallest number of rounds that covers r, and no smaller one,
+-- reaches the last step.
+abbrev pub FewestRounds : Type 0
+FewestRounds =
+    (bytes : List ℕ) (f : File) (from k : ℕ) → readFile bytes ≡ found f → from < length (f .steps) → T (lawfulCount k)
+    → checkSteps f from (drop from (f .steps)) ≡ found tt
+    → (runFrom bytes (round.GoOn from) (replicate (roundsFor (length (f .steps) - from) k) k) ≡ atEnd (replyTo (checkLast f)))
+    × ((n : ℕ) → n < roundsFor (length (f .steps) - from) k
+    → runFrom bytes (round.GoOn from) (replicate n k) ≡ round.GoOn (from + n * k))
+
+-- What a round hands back is the step behind its own, further on, and none beyond the last.
+abbrev pub HandsBack : Type 0
+HandsBack =
+    (bytes : List ℕ) (from count next : ℕ) → roundOf bytes from count ≡ round.GoOn next
+    → (f : File) × (readFile bytes ≡ found f) × (from < next) × (next < length (f .steps)) × (next ≡ from + count)
+
+-- Of a file whose run ends accepted, no list of the task's actions, played from the start, passes a forbidden state.
+abbrev pub RunIsSafe : Type 0
+RunIsSafe = (bytes counts : List ℕ) → run bytes counts ≡ round.Ended → (f : File) × (readFile bytes ≡ found f) × Safe (f .task)
+
+-- The steps from one up to another pass, each by what stands in the file.
+abbrev pub Pass : File → ℕ → ℕ → Type 0
+Pass f from next = (k : ℕ) → from ≤ k → k < next → checkStep f k (stepAt f k) ≡ found tt
+
+-- A round, wherever it is begun, says of its own steps exactly that each passes, and at the end that the last one says "unsolvable".
+abbrev pub RoundSays : Type 0
+RoundSays =
+    (bytes : List ℕ) (f : File) (from count : ℕ) → readFile bytes ≡ found f → from < length (f .steps) → T (lawfulCount count)
+    → (from + count < length (f .steps) → (roundOf bytes from count ≡ round.GoOn (from + count)) ↔ Pass f from (from + count))
+    × (length (f .steps) ≤ from + count
+    → (roundOf bytes from count ≡ round.Ended) ↔ (Pass f from (length (f .steps)) × (checkLast f ≡ found tt)))
+
+-- It says nothing of the steps before them: a round from step 5 ends, although step 4 fails.
+abbrev pub EndsElsewhere : Type 0
+EndsElsewhere =
+    (replyOf (fileBytes 1 2 0 explicit012 0 3 allSteps) ≡ Refused 9 4)
+    × (roundOf (fileBytes 1 2 0 explicit012 0 3 allSteps) 5 3 ≡ round.Ended)
+
+-- In such a round a premise's entry may be outside the file. In the rules 6 to 28 its number fits a letter, as any number does, and no
+-- other pattern of a state set that a premise names.
+abbrev pub OutsideFitsLetters : Type 0
+OutsideFitsLetters =
+    (f : File) (e : ℕ) (σ : Letters) → length (f .stateSets) ≤ e
+    → All (λ rule. All (λ premise. All (λ p. ((x : ℕ) × (p ≡ letter x)) ⊎ (match f p e σ ≡ none)) (namedSets premise)) (premisesOf rule))
+    rules
+
+-- So with the premises "1 within 200" and "200 dead" step 2 passes by SD, and with "200 dead" step 1 fails by CI.
+abbrev pub OutsideEntries : Type 0
+OutsideEntries =
+    (roundOf (fileBytes 1 2 0 explicit012 3 0
+    (0 ∷ 3 ∷ stepBytes 1 1 1 200 0 0 0 ++ stepBytes 6 0 200 0 0 0 0 ++ stepBytes 8 0 1 0 0 1 0)) 2 1 ≡ round.Refused 12 2)
+    × (roundOf (fileBytes 1 2 0 explicit012 3 0
+    (0 ∷ 2 ∷ stepBytes 6 0 200 0 0 0 0 ++ stepBytes 13 3 0 0 0 0 0)) 1 1 ≡ round.Refused 9 1)
+
+-- The sample in rounds: 17 for a count of 0 or over 2,048 and for a place from the number of steps on, after the layout's refusals; the
+-- round that does the last step is the last; and 12 comes from that round alone.
+abbrev pub RoundCases : Type 0
+RoundCases =
+    (roundOf sample 0 7 ≡ round.GoOn 7)
+    × (roundOf sample 0 8 ≡ round.Ended)
+    × (roundOf sample 7 2048 ≡ round.Ended)
+    × (roundOf sample 8 1 ≡ round.Refused 17 0)
+    × (roundOf sample 0 0 ≡ round.Refused 17 0)
+    × (roundOf sample 0 2049 ≡ round.Refused 17 0)
+    × (roundOf [] 8 0 ≡ round.Refused 1 0)
+    × (roundOf (fileBytes 1 2 0 explicit012 3 0 (0 ∷ 7 ∷ firstSteps)) 0 6 ≡ round.GoOn 6)
+    × (roundOf (fileBytes 1 2 0 explicit012 3 0 (0 ∷ 7 ∷ firstSteps)) 6 1 ≡ round.Refused 12 6)
+
+-- The reply of a run with questions put between its rounds is the reply of the run, and each question is answered by the file alone.
+abbrev pub QuestionsBetween : Type 0
+QuestionsBetween =
+    (bytes : List ℕ) (calls : List Call)
+    → (session bytes (round.GoOn 0) calls .0 ≡ run bytes (countsOf calls)) × (session bytes (round.GoOn 0) calls .1 ≡ answersOf bytes calls)
+
+-- A refusal is one of a file, or 17 of the round's numbers, at 0.
+abbrev pub RoundRefusals : Type 0
+RoundRefusals =
+    (bytes : List ℕ) (from count r p : ℕ) → roundOf bytes from count ≡ round.Refused r p
+    → ((1 ≤ r) × (r ≤ 12)) ⊎ ((r ≡ 17) × (p ≡ 0))

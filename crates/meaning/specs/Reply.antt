@@ -2,7 +2,7 @@
 -- Assumes nothing.
 use Prim.Native.Nat.{ℕ, suc, _-_}
 use mathlib.Core.List.{List, [], _∷_}
-use lib.ListN.{length}
+use lib.ListN.{length, drop}
 use lib.Dec.{eqb}
 use Rattle.meaning.specs.Result.{Result, refuse, found, _>>=_, need}
 use Rattle.meaning.specs.File.{Step, File, stepAt}
@@ -18,11 +18,19 @@ checkSteps f i (s ∷ ss) = do
   _ ← checkStep f i s
   checkSteps f (suc i) ss
 
--- all steps, and then whether the last one says "unsolvable"
+-- whether the last step says "unsolvable"
+abbrev pub checkLast : File → Result (Unit {0})
+checkLast f = need (eqb (stepAt f (length (f .steps) - 1) .kind) 3) 12 (length (f .steps) - 1)
+
+-- the steps from step `from` on, and then the last one's judgement
+unfoldable pub checkFrom : File → ℕ → Result (Unit {0})
+checkFrom f from = do
+  _ ← checkSteps f from (drop from (f .steps))
+  checkLast f
+
+-- all steps
 unfoldable pub checkFile : File → Result (Unit {0})
-checkFile f = do
-  _ ← checkSteps f 0 (f .steps)
-  need (eqb (stepAt f (length (f .steps) - 1) .kind) 3) 12 (length (f .steps) - 1)
+checkFile f = checkFrom f 0
 
 -- the reply's cases, with document 01's number and place
 unfoldable pub replyTo : Result (Unit {0}) → Reply

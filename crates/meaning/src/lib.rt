@@ -1,5 +1,5 @@
 // What the checker means: the file, the sets it names, the rules, the replies, and the theorems about them.
-// The code here is the three types that the definitions share with the checker.
+// The code here is the four types that the definitions share with the checker.
 
 // A clause: some positive fact is on, or some negative fact is off.
 pub struct Clause {
@@ -10,6 +10,13 @@ pub struct Clause {
 // The checker's reply: accepted, or document 01's or 02's refusal number and place. A place may be the length of a caller's list.
 pub enum Reply {
     Accepted,
+    Refused { number: u8, place: u64 },
+}
+
+// What a round of a check says: that the last step was reached and says "unsolvable", the step to go on from, or the refusal.
+pub enum Round {
+    Ended,
+    GoOn(u64),
     Refused { number: u8, place: u64 },
 }
 

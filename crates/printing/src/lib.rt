@@ -1,13 +1,14 @@
-// Prints replies and answers, one line each. What the line is, is proved; that it arrives, no contract can say.
+// Prints replies, rounds and answers, one line each. What the line is, is proved; that it arrives, no contract can say.
 use libc::STDOUT_FILENO;
 use meaning::Answer;
 use meaning::Reply;
+use meaning::Round;
 ghost use mathlib.Core.Path.{_≡_};
 ghost use mathlib.Core.List.{List, _++_};
 ghost use Prim.Native.Nat.{ℕ, _+_, _≤_};
 ghost use lib.ListN.{length, take};
 ghost use Rattle.io.specs.Counts.{Counts};
-ghost use Rattle.printing.specs.Lines.{Numeral, RefusedLine, ReplyLine, AnswerLine};
+ghost use Rattle.printing.specs.Lines.{Numeral, RefusedLine, ReplyLine, GoOnLine, RoundLine, AnswerLine};
 
 // Puts a text into a line, and returns where it ends.
 fn put(line: &mut [u8], at: usize, text: &[u8]) -> usize
@@ -63,6 +64,29 @@ fn reply_line(reply: Reply, line: &mut [u8]) -> usize
     }
 }
 
+fn go_on_line(step: u64, line: &mut [u8]) -> usize
+    requires { ⌜ 50 ≤ length (now line) ⌝ }
+    ensures { λ r. ⌜ Counts r (now (line .exit)) ⌝ }
+    ensures { λ r. ⌜ GoOnLine step (take r (now (line .exit))) ⌝ }
+{
+    let words = put(line, 0, b"go on from ");
+    let number = put_number(line, words, step);
+    put(line, number, b"\n")
+}
+
+// A round's line, and its length.
+fn round_line(round: Round, line: &mut [u8]) -> usize
+    requires { ⌜ 50 ≤ length (now line) ⌝ }
+    ensures { λ r. ⌜ Counts r (now (line .exit)) ⌝ }
+    ensures { λ r. ⌜ RoundLine round (take r (now (line .exit))) ⌝ }
+{
+    match round {
+        Round::Ended => put(line, 0, b"ended\n"),
+        Round::GoOn(step) => go_on_line(step, line),
+        Round::Refused { number, place } => refused_line(number, place, line),
+    }
+}
+
 // An answer's line, and its length.
 fn answer_line(answer: Answer, line: &mut [u8]) -> usize
     requires { ⌜ 50 ≤ length (now line) ⌝ }
@@ -80,6 +104,13 @@ pub fn print_reply(reply: Reply) {
     let mut line = [0u8; 50];
     let n = reply_line(reply, &mut line);
     io::write_all(STDOUT_FILENO, &line[..n]);
+}
+
+// To standard output or standard error.
+pub fn print_round(to: i32, round: Round) {
+    let mut line = [0u8; 50];
+    let n = round_line(round, &mut line);
+    io::write_all(to, &line[..n]);
 }
 
 pub fn print_answer(answer: Answer) {

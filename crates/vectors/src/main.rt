@@ -1,15 +1,19 @@
 // Reads cases on standard input, one record each, and prints a reply a line: what the other checker replied is compared with it.
 // A record is its kind (1 byte), entry (8), state (8), the file's length (4) and the file. Kind 0 is a file to check, 1 a question, 2 a
-// file with a list of rule numbers: the list's length stands in the entry's place, and the list before the file.
+// file with a list of rule numbers: the list's length stands in the entry's place, and the list before the file; 3 is a round, with the
+// step that it begins at in the entry's place and the count of its steps in the state's.
 use bytes::u32_at;
 use bytes::u64_at;
 use input::read_part;
 use libc::STDIN_FILENO;
+use libc::STDOUT_FILENO;
 use printing::print_answer;
 use printing::print_reply;
+use printing::print_round;
 use question::ask;
 use verifier::check;
 use verifier::check_numbered;
+use verifier::check_round;
 
 // Replies to a case.
 fn reply(kind: u8, entry: u64, state: u64, numbers: &[u8], file: &[u8]) {
@@ -17,8 +21,10 @@ fn reply(kind: u8, entry: u64, state: u64, numbers: &[u8], file: &[u8]) {
         print_reply(check(file));
     } else if kind == 1 {
         print_answer(ask(file, entry, state));
-    } else {
+    } else if kind == 2 {
         print_reply(check_numbered(file, numbers));
+    } else {
+        print_round(STDOUT_FILENO, check_round(file, entry, state));
     }
 }
 

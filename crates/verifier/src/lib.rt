@@ -1,86 +1,32 @@
-// The checker of a whole file, by document 01's rule numbers or by a caller's own.
+// The checker of a file, whole by document 01's rule numbers or a caller's own, and in rounds.
 use certificate::Index;
-use certificate::Judgement;
 use certificate::Outline;
 use certificate::Places;
-use certificate::StepReply;
 use certificate::views::index_of;
-use derivation::reply::check_step;
 use layout::read_layout;
-use lookup::step;
 use meaning::Reply;
+use meaning::Round;
 use numbering::ListReply;
 use numbering::RuleTable;
 use numbering::numbering_of;
 use numbering::own_numbers;
+use steps::check_from;
+use steps::check_steps;
 ghost use mathlib.Core.Path.{_≡_};
-ghost use Prim.Native.Nat.{ℕ, _<_};
-ghost use lib.Dec.{eqb};
-ghost use lib.ListN.{getD};
+ghost use mathlib.Core.Bool.{_&&_};
+ghost use Prim.Native.Nat.{ℕ};
+ghost use lib.Dec.{ltb};
 ghost use Rattle.task.specs.Reach.{Safe};
-ghost use Rattle.meaning.specs.Result.{found, need};
-ghost use Rattle.meaning.specs.File.{File, stepAt};
+ghost use Rattle.meaning.specs.Result.{found};
+ghost use Rattle.meaning.specs.File.{File};
 ghost use Rattle.meaning.specs.Layout.{readFile};
-ghost use Rattle.certificate.specs.Views.{judgementAt};
-ghost use Rattle.certificate.specs.Known.{Placed, Known, decoded};
 ghost use Rattle.meaning.specs.declared.Reply.the-variants.{Accepted};
-ghost use Rattle.meaning.specs.Reply.{checkFile, replyTo, replyOf};
-ghost use Rattle.meaning.specs.Numbering.{rewritten, checkRewritten, replyNumbered};
+ghost use Rattle.meaning.specs.Reply.{replyTo, replyOf};
+ghost use Rattle.meaning.specs.Numbering.{checkRewritten, replyNumbered};
+ghost use Rattle.meaning.specs.Rounds.{lawfulCount, roundOf};
+ghost use Rattle.certificate.specs.Known.{Placed, Known};
 ghost use Rattle.numbering.specs.Table.{Stands};
-
-// The reply after all steps passed, from what the last one, step k, says.
-fn last_step(said: Judgement, k: u64) -> Reply
-    ensures { λ r. ⌜ ((f : File) → said ≡ judgementAt f k → stepAt f k .kind < 4 → r ≡ replyTo (need (eqb (stepAt f k .kind) 3) 12 k)) ⌝ }
-{
-    let Judgement::Unsolvable = said else {
-        return Reply::Refused {
-            number: 12,
-            place: k,
-        };
-    };
-    Reply::Accepted
-}
-
-// The rule that the number of step k stands for by a table; what byte 0 stands for where there is no such step.
-fn rule_of(file: &[u8], at: Places, rules: &RuleTable, k: u16) -> u8
-    requires { ⌜ Placed (now file) at ⌝ }
-    ensures { λ r. ⌜ r ≡ getD (now (rules .entry)) (stepAt (decoded (now (file .entry))) k .rule) 0 ⌝ }
-    ensures { λ r. ⌜ stepAt (decoded (now (file .entry))) k .rule < 256 ⌝ }
-{
-    if at.steps <= k {
-        return rules[0];
-    }
-    let s = step(file, at, k);
-    rules[s.rule as usize]
-}
-
-// The steps in turn, each by the rule that its number stands for, and then whether the last one says "unsolvable". A rule is looked up
-// one step ahead, so that it is there when the step's branches go by it.
-fn check_steps(file: &[u8], at: Places, index: &Index, rules: &RuleTable) -> Reply
-    requires { ⌜ Placed (now file) at ⌝ }
-    requires { ⌜ Known (now file) (now index) ⌝ }
-    ensures { λ r. ⌜ ((g : ℕ → ℕ) → Stands (now (rules .entry)) g → r ≡ replyTo (checkFile (rewritten g (decoded (now (file .entry)))))) ⌝ }
-{
-    let count = at.steps;
-    let mut said = Judgement::Dead(0);
-    let mut next = rule_of(file, at, rules, 0);
-    let mut k = 0u16;
-    while k < count {
-        let s = step(file, at, k);
-        let rule = next;
-        next = rule_of(file, at, rules, k + 1);
-        match check_step(file, at, index, k, rule, s) {
-            StepReply::Passed => {}
-            StepReply::Refused(number) => {
-                let place = k as u64;
-                return Reply::Refused { number, place };
-            }
-        }
-        said = s.judgement;
-        k += 1;
-    }
-    last_step(said, count as u64 - 1)
-}
+ghost use Rattle.verifier.specs.Round.{orElse};
 
 // The reply to a file whose rule bytes stand for the rules of a table.
 fn check_by(file: &[u8], rules: &RuleTable) -> Reply
@@ -93,7 +39,7 @@ fn check_by(file: &[u8], rules: &RuleTable) -> Reply
         }
         Outline::Lawful(at) => {
             let index = index_of(file, at);
-            check_steps(file, at, &index, rules)
+            check_from(file, at, &index, rules, 0)
         }
     }
 }
@@ -124,5 +70,63 @@ pub fn check_numbered(file: &[u8], numbers: &[u8]) -> Reply
             Reply::Refused { number, place }
         }
         ListReply::Lawful => check_by(file, &list.rules),
+    }
+}
+
+// What a round says whose steps got a reply: its refusal, or else what is said where they pass.
+fn round_by(reply: Reply, passed: Round) -> Round
+    ensures { λ r. ⌜ r ≡ orElse reply passed ⌝ }
+{
+    match reply {
+        Reply::Accepted => passed,
+        Reply::Refused { number, place } => Round::Refused { number, place },
+    }
+}
+
+// Whether a round of a file with so many steps may begin at such a step and have such a count.
+fn is_lawful(steps: u64, from: u64, count: u64) -> bool
+    ensures { λ r. ⌜ r ≡ (lawfulCount count && ltb from steps) ⌝ }
+{
+    (1 <= count) & (count <= 2048) & (from < steps)
+}
+
+// A round of a file that is read.
+fn round_of(file: &[u8], at: Places, index: &Index, from: u64, count: u64) -> Round
+    requires { ⌜ Placed (now file) at ⌝ }
+    requires { ⌜ Known (now file) (now index) ⌝ }
+    ensures { λ r. ⌜ r ≡ roundOf (now (file .entry)) from count ⌝ }
+{
+    let steps = at.steps as u64;
+    if !is_lawful(steps, from, count) {
+        let number = 17;
+        let place = 0;
+        return Round::Refused { number, place };
+    }
+    let rules = own_numbers();
+    let first = from as u16;
+    if count < steps - from {
+        let reply = check_steps(file, at, index, &rules, first, count as u16);
+        round_by(reply, Round::GoOn(from + count))
+    } else {
+        let reply = check_from(file, at, index, &rules, first);
+        round_by(reply, Round::Ended)
+    }
+}
+
+// One round of a check: so many steps from one on. A run of rounds, begun at step 0 and gone on with at the step handed back, ends with
+// the reply of `check`; a round by itself speaks of its own steps alone.
+pub fn check_round(file: &[u8], from: u64, count: u64) -> Round
+    ensures round { λ r. ⌜ r ≡ roundOf (now (file .entry)) from count ⌝ }
+    ensures untouched { λ r. ⌜ now (file .exit) ≡ now (file .entry) ⌝ }
+{
+    match read_layout(file) {
+        Outline::Refused { number, place } => {
+            let place = place as u64;
+            Round::Refused { number, place }
+        }
+        Outline::Lawful(at) => {
+            let index = index_of(file, at);
+            round_of(file, at, &index, from, count)
+        }
     }
 }

@@ -3,6 +3,7 @@
 use mathlib.Core.Path.{_∙_}
 use borrow.Author.Needs.{needs}
 use Rattle.certificate.proofs.OutlineKnown.{lawful-placed, refused-read}
+use Rattle.steps.proofs.StepsLaws.{step-count}
 use Rattle.verifier.proofs.CheckLaws.{read-reply, unread-reply}
 use Rattle.verifier.proofs.check_by.Statement.{statement}
 use Rattle.verifier.proofs.check_by.Tie as tie
@@ -10,10 +11,11 @@ use Rattle.verifier.proofs.check_by.Tie as tie
 index-of-requires : tie.Need-index-of-requires
 index-of-requires c κs = let a = c .before in lawful-placed _ (a .before .before .read-layout .ensures) _ (a .at .given .1)
 
-check-steps-requires : tie.Need-check-steps-requires
-check-steps-requires c κs =
+check-from-requires : tie.Need-check-from-requires
+check-from-requires c κs =
     let a = c .before .before .before in
-    (lawful-placed _ (a .before .before .read-layout .ensures) _ (a .at .given .1), c .before .index-of .ensures)
+    let placed = lawful-placed _ (a .before .before .read-layout .ensures) _ (a .at .given .1) in
+    (placed, (c .before .index-of .ensures, step-count _ _ placed .0))
 
 returns : tie.Need-returns
 returns c g stands =
@@ -22,10 +24,10 @@ returns c g stands =
 returns-2 : tie.Need-returns-2
 returns-2 c g stands =
     let i = c .before .before in
-    c .check-steps .ensures g stands ∙ read-reply g _ (i .index-of .ensures .read)
+    c .check-from .ensures g stands ∙ read-reply g _ (i .index-of .ensures .read)
 
 pub check-by-spec : {M : Type 1} → statement M
 check-by-spec =
     tie.close (tie.spec
-    (λ c κs. search needs) (λ c. search needs) (λ c. search needs) (λ c. search needs) index-of-requires check-steps-requires
+    (λ c κs. search needs) (λ c. search needs) (λ c. search needs) (λ c. search needs) index-of-requires check-from-requires
     returns returns-2)

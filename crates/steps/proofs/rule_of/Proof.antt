@@ -9,9 +9,9 @@ use Rattle.certificate.specs.declared.Step as code
 use Rattle.certificate.specs.Views.{stepOf}
 use Rattle.certificate.specs.Known.{decoded}
 use Rattle.certificate.proofs.KnownLaws.{placed-steps}
-use Rattle.verifier.proofs.CheckLaws.{no-step}
-use Rattle.verifier.proofs.rule_of.Statement.{statement}
-use Rattle.verifier.proofs.rule_of.Tie as tie
+use Rattle.steps.proofs.StepsLaws.{no-step}
+use Rattle.steps.proofs.rule_of.Statement.{statement}
+use Rattle.steps.proofs.rule_of.Tie as tie
 
 returns : tie.Need-returns
 returns c =

@@ -1,0 +1,66 @@
+-- `round_of` meets its contract: 17 for a count or a place out of range; else the reply to the round's own steps, and where they pass the
+-- step behind them, or, at the last one, that it has ended.
+-- Assumes nothing.
+use mathlib.Core.Path.{sym, ap, _∙_}
+use Prim.Native.Nat.{_<_}
+use native.Mathlib.Nat.{le-of-lt}
+use native.Mathlib.Omega.{arith}
+use borrow.Author.Tests.{not-true, not-false}
+use borrow.Author.Needs.{needs}
+use Rattle.certificate.proofs.KnownLaws.{placed-steps}
+use Rattle.verifier.proofs.CheckLaws.{lawful-place, unlawful-round, round-goes-on, round-ends}
+use Rattle.verifier.proofs.round_of.Statement.{statement}
+use Rattle.verifier.proofs.round_of.Tie as tie
+
+returns : tie.Need-returns
+returns c =
+    let s = c .before .before .before .before in
+    unlawful-round _ _ (s .pre .0 .read) _ _ _ (placed-steps _ _ (s .pre .0)) (sym (not-true _ (c .if1 .taken)) ∙ c .before .is-lawful .ensures)
+
+cast-first : tie.Need-cast-first
+cast-first c =
+    let a = c .before .before .before .before .before .args in
+    let l : a .from < a .at .steps =
+    lawful-place _ _ _ (sym (not-false _ (c .before .if1 .left)) ∙ c .before .before .is-lawful .ensures) in
+    let steps : a .at .steps < 65536 = search needs in
+    omega (arith, l, steps)
+
+sub-if2 : tie.Need-sub-if2
+sub-if2 c = le-of-lt (lawful-place _ _ _ (sym (not-false _ (c .before .if1 .left)) ∙ c .before .before .is-lawful .ensures))
+
+check-steps-requires : tie.Need-check-steps-requires
+check-steps-requires c κs =
+    let i = c .before .before .before in
+    let start = i .before .before .before .before in
+    let l : start .args .from < start .args .at .steps = lawful-place _ _ _ (sym (not-false _ (i .if1 .left)) ∙ i .before .is-lawful .ensures) in
+    (start .pre .0, (start .pre .1, omega (arith, l, c .before .if2 .taken)))
+
+check-from-requires : tie.Need-check-from-requires
+check-from-requires c κs =
+    let i = c .before .before .before in
+    let pre = i .before .before .before .before .pre in
+    (pre .0, (pre .1, lawful-place _ _ _ (sym (not-false _ (i .if1 .left)) ∙ i .before .is-lawful .ensures)))
+
+returns-2 : tie.Need-returns-2
+returns-2 c =
+    let s = c .before in
+    let i = s .before .before .before .before in
+    let start = i .before .before .before .before in
+    c .round-by .ensures
+    ∙ round-goes-on _ _ (start .pre .0 .read) _ _ _ (placed-steps _ _ (start .pre .0)) (sym (not-false _ (i .if1 .left)) ∙ i .before .is-lawful .ensures)
+    (omega (arith, s .before .before .if2 .taken)) (s .check-steps .ensures (λ x. x) (s .before .before .before .own-numbers .ensures))
+
+returns-3 : tie.Need-returns-3
+returns-3 c =
+    let s = c .before in
+    let i = s .before .before .before .before in
+    let start = i .before .before .before .before in
+    c .round-by2 .ensures
+    ∙ round-ends _ _ (start .pre .0 .read) _ _ _ (placed-steps _ _ (start .pre .0)) (sym (not-false _ (i .if1 .left)) ∙ i .before .is-lawful .ensures)
+    (omega (arith, s .before .before .if2 .left)) (s .check-from .ensures (λ x. x) (s .before .before .before .own-numbers .ensures))
+
+pub round-of-spec : {M : Type 1} → statement M
+round-of-spec =
+    tie.close (tie.spec
+    (λ c. search needs) (λ c κs. search needs) returns (λ c κs. search needs) cast-first sub-if2 (λ c. search needs) check-steps-requires
+    (λ c. search needs) (λ c κs. search needs) check-from-requires (λ c κs. search needs) returns-2 returns-3)
