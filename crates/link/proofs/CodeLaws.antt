@@ -1,6 +1,6 @@
--- What a code tells: 0 is accepted or out, 1 is in, and every refusal has a greater one.
+-- What a code tells: 0 is accepted, ended or out, 1 is in, a step's number is to go on from it, and every refusal has a greater one.
 -- Assumes nothing.
-use mathlib.Core.Path.{_≡_, refl, sym, _∙_}
+use mathlib.Core.Path.{_≡_, refl, sym, ap, _∙_}
 use Prim.Native.Nat.{ℕ, _≤_, _<_}
 use native.Mathlib.Omega.{arith}
 use mathlib.Core.Logic.{_⊎_, inl, inr}
@@ -15,12 +15,17 @@ use Rattle.meaning.specs.declared.Answer.{Answer}
 use Rattle.meaning.specs.declared.Answer.the-variants as answer
 use Rattle.meaning.specs.Reply.{replyOf}
 use Rattle.meaning.specs.Numbering.{replyNumbered}
+use Rattle.meaning.specs.declared.Round.{Round}
+use Rattle.meaning.specs.declared.Round.the-variants as round
+use Rattle.meaning.specs.Rounds.{roundOf}
 use Rattle.meaning.specs.Question.{answerOf}
+use Rattle.meaning.proofs.Reading.{file-read}
 use Rattle.meaning.proofs.Points.{an-accepted-file-is-safe, a-refused-file-has-a-number-to-12, a-refused-question-has-its-number}
 use Rattle.meaning.proofs.Points.{a-file-accepted-with-a-list-is-safe, a-refusal-with-a-list-has-its-number}
-use Rattle.link.specs.Code.{refusalCode, codeOf, answerCodeOf}
+use Rattle.meaning.proofs.Points.{a-round-hands-back-the-next-step, a-refused-round-has-its-number}
+use Rattle.link.specs.Code.{refusalCode, codeOf, roundCodeOf, answerCodeOf}
 
-refusal-above : (r p : ℕ) → 1 ≤ r → 1 < refusalCode r p
+refusal-above : (r p : ℕ) → 1 ≤ r → 4294967296 ≤ refusalCode r p
 unfolding refusalCode
 refusal-above r p h = omega (arith, h)
 
@@ -63,3 +68,38 @@ told bytes e s q =
     let h : (r p : ℕ) → answerOf bytes e s ≡ answer.Refused r p
     → 1 ≤ r = λ r p w. least (omega arith) (a-refused-question-has-its-number bytes e s r p w) in
     ((λ z. told-in (answerOf bytes e s) h (sym q ∙ z)), (λ z. told-out (answerOf bytes e s) h (sym q ∙ z)))
+
+-- a place that a round hands back is a step behind another, of 2,048 at most
+handed : (bytes : List ℕ) (from count n : ℕ) → roundOf bytes from count ≡ round.GoOn n → (0 < n) × (n < 2048)
+handed bytes from count n e =
+    let h = a-round-hands-back-the-next-step bytes from count n e in
+    let few = file-read bytes (h .0) (h .1) .few-steps in
+    (omega (arith, h .2), omega (arith, h .3, few))
+
+told-ended : (x : Round) → ((n : ℕ) → x ≡ round.GoOn n → 0 < n) → ((r p : ℕ) → x ≡ round.Refused r p → 1 ≤ r) → roundCodeOf x ≡ 0
+    → x ≡ round.Ended
+unfolding roundCodeOf
+told-ended round.Ended g h e = refl
+told-ended (round.GoOn n) g h e = absurd (omega (arith, e, g n refl))
+told-ended (round.Refused r p) g h e = absurd (omega (arith, e, refusal-above r p (h r p refl)))
+
+told-on : (x : Round) (c : ℕ) → ((r p : ℕ) → x ≡ round.Refused r p → 1 ≤ r) → c ≡ roundCodeOf x → 0 < c → c < 4294967296
+    → x ≡ round.GoOn c
+unfolding roundCodeOf
+told-on round.Ended c h e low high = absurd (omega (arith, e, low))
+told-on (round.GoOn n) c h e low high = ap round.GoOn (sym e)
+told-on (round.Refused r p) c h e low high = absurd (omega (arith, e, high, refusal-above r p (h r p refl)))
+
+pub round-told : (bytes : List ℕ) (from count : ℕ) {c : ℕ} → c ≡ roundCodeOf (roundOf bytes from count)
+    → (c ≡ 0 → roundOf bytes from count ≡ round.Ended)
+    × (0 < c → c < 4294967296 → (roundOf bytes from count ≡ round.GoOn c) × (c < 2048))
+round-told bytes from count {c} q =
+    let x = roundOf bytes from count in
+    let h : (r p : ℕ) → x ≡ round.Refused r p → 1 ≤ r = λ r p w. number (a-refused-round-has-its-number bytes from count r p w) in (
+      (λ z. told-ended x (λ n e. handed bytes from count n e .0) h (sym q ∙ z)),
+      (λ low high. let e = told-on x c h q low high in (e, handed bytes from count c e .1)),
+    )
+  where
+    number : {r p : ℕ} → ((1 ≤ r) × (r ≤ 12)) ⊎ ((r ≡ 17) × (p ≡ 0)) → 1 ≤ r
+    number (inl l) = l .0
+    number (inr l) = omega (arith, l .0)

@@ -1,4 +1,4 @@
--- How many digits a number has at most, and a refusal's line by its parts.
+-- How many digits a number has at most, and the lines of a refusal and of a round that goes on by their parts.
 -- Assumes nothing.
 use mathlib.Core.Path.{_≡_, ap, _∙_}
 use mathlib.Core.List.{List, [], _∷_, _++_}
@@ -6,7 +6,7 @@ use Prim.Native.Nat.{ℕ, _-_, _^_, _≤_, _<_}
 use native.Mathlib.Nat.{pow-le-pow-right, le-trans, lt-of-not-le}
 use native.Mathlib.Omega.{arith}
 use Rattle.io.specs.Digits.{Fewest}
-use Rattle.printing.specs.Lines.{refused, Numeral, RefusedLine}
+use Rattle.printing.specs.Lines.{refused, go-on-from, Numeral, RefusedLine, GoOnLine}
 
 -- a number of 64 bits has at most 20 digits
 pub at-most-twenty : (n k : ℕ) → n < 2 ^ 64 → Fewest 10 1 n k → k ≤ 20
@@ -35,3 +35,10 @@ refused-by-parts number place word first space second end e (a, (na, ea)) es (b,
     ),
   ),
 )
+
+-- what three puts leave
+pub go-on-by-parts : (step : ℕ) (words number end : List ℕ) → words ≡ go-on-from
+    → ((a : List ℕ) × (Numeral step a × (number ≡ words ++ a))) → end ≡ number ++ (10 ∷ []) → GoOnLine step end
+unfolding GoOnLine
+go-on-by-parts step words number end e (a, (na, ea)) ee =
+    (a, (na, ee ∙ ap (λ (t : List ℕ). t ++ (10 ∷ [])) (ea ∙ ap (λ (t : List ℕ). t ++ a) e)))
