@@ -19,10 +19,10 @@ use Rattle.meaning.specs.declared.Round.{Round}
 use Rattle.meaning.specs.declared.Round.the-variants as round
 use Rattle.meaning.specs.Rounds.{roundOf}
 use Rattle.meaning.specs.Question.{answerOf}
-use Rattle.meaning.proofs.Reading.{file-read}
+use Rattle.meaning.proofs.Rounds.{goes-further}
 use Rattle.meaning.proofs.Points.{an-accepted-file-is-safe, a-refused-file-has-a-number-to-12, a-refused-question-has-its-number}
 use Rattle.meaning.proofs.Points.{a-file-accepted-with-a-list-is-safe, a-refusal-with-a-list-has-its-number}
-use Rattle.meaning.proofs.Points.{a-round-hands-back-the-next-step, a-refused-round-has-its-number}
+use Rattle.meaning.proofs.Points.{a-refused-round-has-its-number}
 use Rattle.link.specs.Code.{refusalCode, codeOf, roundCodeOf, answerCodeOf}
 
 refusal-above : (r p : ℕ) → 1 ≤ r → 4294967296 ≤ refusalCode r p
@@ -69,13 +69,6 @@ told bytes e s q =
     → 1 ≤ r = λ r p w. least (omega arith) (a-refused-question-has-its-number bytes e s r p w) in
     ((λ z. told-in (answerOf bytes e s) h (sym q ∙ z)), (λ z. told-out (answerOf bytes e s) h (sym q ∙ z)))
 
--- a place that a round hands back is a step behind another, of 2,048 at most
-handed : (bytes : List ℕ) (from count n : ℕ) → roundOf bytes from count ≡ round.GoOn n → (0 < n) × (n < 2048)
-handed bytes from count n e =
-    let h = a-round-hands-back-the-next-step bytes from count n e in
-    let few = file-read bytes (h .0) (h .1) .few-steps in
-    (omega (arith, h .2), omega (arith, h .3, few))
-
 told-ended : (x : Round) → ((n : ℕ) → x ≡ round.GoOn n → 0 < n) → ((r p : ℕ) → x ≡ round.Refused r p → 1 ≤ r) → roundCodeOf x ≡ 0
     → x ≡ round.Ended
 unfolding roundCodeOf
@@ -96,8 +89,8 @@ pub round-told : (bytes : List ℕ) (from count : ℕ) {c : ℕ} → c ≡ round
 round-told bytes from count {c} q =
     let x = roundOf bytes from count in
     let h : (r p : ℕ) → x ≡ round.Refused r p → 1 ≤ r = λ r p w. number (a-refused-round-has-its-number bytes from count r p w) in (
-      (λ z. told-ended x (λ n e. handed bytes from count n e .0) h (sym q ∙ z)),
-      (λ low high. let e = told-on x c h q low high in (e, handed bytes from count c e .1)),
+      (λ z. told-ended x (λ n e. let l = goes-further bytes from count n e in omega (arith, l .0)) h (sym q ∙ z)),
+      (λ low high. let e = told-on x c h q low high in (e, goes-further bytes from count c e .1)),
     )
   where
     number : {r p : ℕ} → ((1 ≤ r) × (r ≤ 12)) ⊎ ((r ≡ 17) × (p ≡ 0)) → 1 ≤ r

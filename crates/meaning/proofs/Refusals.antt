@@ -6,9 +6,10 @@ use mathlib.Core.Bool.{Bool, true, false, _&&_}
 use mathlib.Core.Logic.{_⊎_, inl, inr}
 use mathlib.Core.Option.{Option, none, some}
 use mathlib.Core.List.{List, [], _∷_, _++_}
-use lib.ListN.{length, getElem?}
+use lib.ListN.{length, getElem?, take, drop}
 use native.Mathlib.Omega.{arith}
-use lib.Dec.{T, leb, ltb, leb→le}
+use native.Mathlib.Decide.{decLt}
+use lib.Dec.{T, leb, leb→le}
 use Rattle.meaning.specs.Result.{Result, refuse, found, _>>=_, need, known}
 use Rattle.meaning.specs.File.{Step, File}
 use Rattle.meaning.specs.Layout.{items, ascending, field, count, mask, reference, action, clause, step, Kind, plain, one, two}
@@ -16,7 +17,7 @@ use Rattle.meaning.specs.Layout.{clauses, actionKinds, stateKinds, entry
 use Rattle.meaning.specs.Rules.{_⊢_}
 use Rattle.meaning.specs.Step.{Check, statement, derivation, checkBy, checkStep}
 use Rattle.meaning.specs.declared.Reply.the-variants.{Refused}
-use Rattle.meaning.specs.Reply.{checkSteps, checkLast, checkFrom, checkFile, replyTo, replyOf}
+use Rattle.meaning.specs.Reply.{checkSteps, checkFrom, checkFile, replyTo, replyOf}
 use Rattle.meaning.specs.declared.Answer.the-variants as answer
 use Rattle.meaning.specs.Question.{answerTo, answerOf}
 use Rattle.meaning.specs.Numbering.{checkUnused, checkNumbers, ruleMeant, rewritten, checkRewritten, replyNumbered}
@@ -24,11 +25,12 @@ use Rattle.meaning.specs.declared.Round.the-variants as round
 use Rattle.meaning.specs.Rounds.{handBack, checkRound, roundTo, roundOf}
 use Rattle.meaning.specs.Points.{RefusalNumbers, NumberedRefusals, RoundRefusals, AnswerNumbers}
 use Rattle.meaning.proofs.Results.{and-out}
+use Rattle.meaning.proofs.Rounds.{hands-on, hands-none}
 
-module _ (ok : ℕ → Type 0) where
-  -- where it is a refusal, its number has the property
+module _ (ok : ℕ → ℕ → Type 0) where
+  -- where it is a refusal, its number and place have the property
   abbrev Numbered : {A : Type 0} → Result A → Type 0
-  Numbered (refuse r p) = ok r
+  Numbered (refuse r p) = ok r p
   Numbered (found a) = Unit {0}
 
   then-ok : {A B : Type 0} (x : Result A) (g : A → Result B) → Numbered x → ((a : A) → Numbered (g a)) → Numbered (x >>= g)
@@ -36,17 +38,17 @@ module _ (ok : ℕ → Type 0) where
   then-ok (refuse r p) g h k = h
   then-ok (found a) g h k = k a
 
-  need-ok : (b : Bool) (r p : ℕ) → ok r → Numbered (need b r p)
+  need-ok : (b : Bool) (r p : ℕ) → ok r p → Numbered (need b r p)
   unfolding need
   need-ok true r p h = tt
   need-ok false r p h = h
 
-  known-ok : {A : Type 0} (o : Option A) (r p : ℕ) → ok r → Numbered (known o r p)
+  known-ok : {A : Type 0} (o : Option A) (r p : ℕ) → ok r p → Numbered (known o r p)
   unfolding known
   known-ok none r p h = h
   known-ok (some a) r p h = tt
 
-  need-then : {B : Type 0} (b : Bool) (r p : ℕ) (g : Unit {0} → Result B) → ok r → Numbered (g tt) → Numbered (need b r p >>= g)
+  need-then : {B : Type 0} (b : Bool) (r p : ℕ) (g : Unit {0} → Result B) → ok r p → Numbered (g tt) → Numbered (need b r p >>= g)
   need-then b r p g h k = then-ok (need b r p) g (need-ok b r p h) (λ _. k)
 
   -- every item's reader gives such a refusal, or none
@@ -56,13 +58,13 @@ module _ (ok : ℕ → Type 0) where
   items-ok read size h p (suc k) = then-ok (read p) _ (h p)
       (λ x. then-ok (items read size (p + size) k) _ (items-ok read size h (p + size) k) (λ xs. tt))
 
-  ascending-ok : (read : ℕ → Result ℕ) (size : ℕ) → ok 7 → ((p : ℕ) → Numbered (read p)) → (low p k : ℕ)
+  ascending-ok : (read : ℕ → Result ℕ) (size : ℕ) → ((p : ℕ) → ok 7 p) → ((p : ℕ) → Numbered (read p)) → (low p k : ℕ)
       → Numbered (ascending read size low p k)
   unfolding ascending
   ascending-ok read size h₇ h low p zero = tt
   ascending-ok read size h₇ h low p (suc k) =
       then-ok (read p) _ (h p) (λ x.
-      need-then (leb low x) 7 p _ h₇
+      need-then (leb low x) 7 p _ (h₇ p)
       (then-ok (ascending read size (suc x) (p + size) k) _ (ascending-ok read size h₇ h (suc x) (p + size) k) (λ xs. tt)))
 
   -- the bodies of a kind; of each kind of a list; of one that may be missing
@@ -82,7 +84,7 @@ module _ (ok : ℕ → Type 0) where
   body-at (k ∷ ks) h zero = h .0
   body-at (k ∷ ks) h (suc j) = body-at ks (h .1) j
 
-  known-kind : {A B : Type 0} (o : Option (Kind A)) (r p : ℕ) (g : Kind A → Result B) → ok r → SomeBodies o
+  known-kind : {A B : Type 0} (o : Option (Kind A)) (r p : ℕ) (g : Kind A → Result B) → ok r p → SomeBodies o
       → ((k : Kind A) → Bodies k → Numbered (g k)) → Numbered (known o r p >>= g)
   unfolding known _>>=_
   known-kind none r p g h b f = h
@@ -93,22 +95,22 @@ module _ (ok : ℕ → Type 0) where
 of-layout : (r : ℕ) → T (leb 1 r && leb r 7) → (1 ≤ r) × (r ≤ 7)
 of-layout r t = let b = and-out (leb 1 r) (leb r 7) t in (leb→le 1 r (b .0), leb→le r 7 (b .1))
 
-module _ (ok : ℕ → Type 0) (h : (r : ℕ) → T (leb 1 r && leb r 7) → ok r) (bytes : List ℕ) where
+module _ (ok : ℕ → ℕ → Type 0) (h : (r p : ℕ) → T (leb 1 r && leb r 7) → ok r p) (bytes : List ℕ) where
   field-ok : (k p : ℕ) → Numbered ok (field bytes k p)
   unfolding field
-  field-ok k p = need-then ok _ 3 p _ (h 3 tt) tt
+  field-ok k p = need-then ok _ 3 p _ (h 3 _ tt) tt
 
   count-ok : (low high p : ℕ) → Numbered ok (count bytes low high p)
   unfolding count
-  count-ok low high p = then-ok ok (field bytes 2 p) _ (field-ok 2 p) (λ c. need-then ok _ 4 p _ (h 4 tt) tt)
+  count-ok low high p = then-ok ok (field bytes 2 p) _ (field-ok 2 p) (λ c. need-then ok _ 4 p _ (h 4 _ tt) tt)
 
   mask-ok : (n p : ℕ) → Numbered ok (mask bytes n p)
   unfolding mask
-  mask-ok n p = then-ok ok (field bytes 8 p) _ (field-ok 8 p) (λ m. need-then ok _ 5 p _ (h 5 tt) tt)
+  mask-ok n p = then-ok ok (field bytes 8 p) _ (field-ok 8 p) (λ m. need-then ok _ 5 p _ (h 5 _ tt) tt)
 
   reference-ok : (bound p : ℕ) → Numbered ok (reference bytes bound p)
   unfolding reference
-  reference-ok bound p = then-ok ok (field bytes 2 p) _ (field-ok 2 p) (λ r. need-then ok _ 6 p _ (h 6 tt) tt)
+  reference-ok bound p = then-ok ok (field bytes 2 p) _ (field-ok 2 p) (λ r. need-then ok _ 6 p _ (h 6 _ tt) tt)
 
   action-ok : (n p : ℕ) → Numbered ok (action bytes n p)
   unfolding action
@@ -122,11 +124,11 @@ module _ (ok : ℕ → Type 0) (h : (r : ℕ) → T (leb 1 r && leb r 7) → ok 
   clause-ok n rule p =
       then-ok ok (mask bytes n p) _ (mask-ok n p) (λ a.
       then-ok ok (mask bytes n (p + 8)) _ (mask-ok n (p + 8)) (λ b.
-      need-then ok _ 7 p _ (h 7 tt) tt))
+      need-then ok _ 7 p _ (h 7 _ tt) tt))
 
   step-ok : (p : ℕ) → Numbered ok (step bytes p)
   unfolding step
-  step-ok p = need-then ok _ 3 p _ (h 3 tt) tt
+  step-ok p = need-then ok _ 3 p _ (h 3 _ tt) tt
 
   one-ok : {A : Type 0} (make : ℕ → A) (bound : ℕ) → Bodies ok (one bytes make bound)
   unfolding one
@@ -143,8 +145,8 @@ module _ (ok : ℕ → Type 0) (h : (r : ℕ) → T (leb 1 r && leb r 7) → ok 
   action-kinds-ok m i = (
     (λ p len. tt),
     (
-      (λ p len. then-ok ok (ascending (reference bytes m) 2 0 p (len / 2)) _ (ascending-ok ok _ 2 (h 7 tt) (reference-ok m) 0 p (len / 2))
-          (λ is. tt)),
+      (λ p len. then-ok ok (ascending (reference bytes m) 2 0 p (len / 2)) _
+          (ascending-ok ok _ 2 (λ q. h 7 q tt) (reference-ok m) 0 p (len / 2)) (λ is. tt)),
       (
         two-ok _ i i,
         tt,
@@ -164,7 +166,7 @@ module _ (ok : ℕ → Type 0) (h : (r : ℕ) → T (leb 1 r && leb r 7) → ok 
       (
         (λ p len. tt),
         (
-          (λ p len. then-ok ok (ascending (mask bytes n) 8 0 p (len / 8)) _ (ascending-ok ok _ 8 (h 7 tt) (mask-ok n) 0 p (len / 8))
+          (λ p len. then-ok ok (ascending (mask bytes n) 8 0 p (len / 8)) _ (ascending-ok ok _ 8 (λ q. h 7 q tt) (mask-ok n) 0 p (len / 8))
               (λ ss. tt)),
           (
             (λ p len. then-ok ok _ _ (clauses-ok n _ p len) (λ cs. tt)),
@@ -197,9 +199,9 @@ module _ (ok : ℕ → Type 0) (h : (r : ℕ) → T (leb 1 r && leb r 7) → ok 
   unfolding entry
   entry-ok kinds b p =
       then-ok ok (field bytes 2 p) _ (field-ok 2 p) (λ len.
-      need-then ok _ 3 p _ (h 3 tt) (need-then ok _ 4 p _ (h 4 tt)
-      (known-kind ok (getElem? kinds _) 4 (p + 2) _ (h 4 tt) (body-at ok kinds b _) (λ k c.
-      need-then ok _ 4 p _ (h 4 tt) (c (p + 3) (len - 1))))))
+      need-then ok _ 3 p _ (h 3 _ tt) (need-then ok _ 4 p _ (h 4 _ tt)
+      (known-kind ok (getElem? kinds _) 4 (p + 2) _ (h 4 _ tt) (body-at ok kinds b _) (λ k c.
+      need-then ok _ 4 p _ (h 4 _ tt) (c (p + 3) (len - 1))))))
 
   entries-ok : {A : Type 0} (kinds : ℕ → List (Kind A)) → ((i : ℕ) → AllBodies ok (kinds i)) → (i p k : ℕ)
       → Numbered ok (entries bytes kinds i p k)
@@ -213,9 +215,9 @@ module _ (ok : ℕ → Type 0) (h : (r : ℕ) → T (leb 1 r && leb r 7) → ok 
   unfolding readTask
   read-task-ok =
       then-ok ok (field bytes 1 4) _ (field-ok 1 4) (λ v.
-      need-then ok _ 2 4 _ (h 2 tt)
+      need-then ok _ 2 4 _ (h 2 _ tt)
       (then-ok ok (field bytes 1 5) _ (field-ok 1 5) (λ n.
-      need-then ok _ 4 5 _ (h 4 tt)
+      need-then ok _ 4 5 _ (h 4 _ tt)
       (then-ok ok (mask bytes n 6) _ (mask-ok n 6) (λ s.
       then-ok ok (mask bytes n 14) _ (mask-ok n 14) (λ g.
       then-ok ok (count bytes 0 256 22) _ (count-ok 0 256 22) (λ m.
@@ -224,7 +226,7 @@ module _ (ok : ℕ → Type 0) (h : (r : ℕ) → T (leb 1 r && leb r 7) → ok 
   read-file-ok : Numbered ok (readFile bytes)
   unfolding readFile
   read-file-ok =
-      need-then ok _ 1 0 _ (h 1 tt) (need-then ok _ 1 0 _ (h 1 tt)
+      need-then ok _ 1 0 _ (h 1 _ tt) (need-then ok _ 1 0 _ (h 1 _ tt)
       (then-ok ok (readTask bytes) _ read-task-ok (λ t.
       then-ok ok (count bytes 0 256 (t .1)) _ (count-ok 0 256 (t .1)) (λ ac.
       then-ok ok (entries bytes (actionKinds bytes _) 0 _ ac) _ (entries-ok _ (action-kinds-ok _) 0 _ ac) (λ es.
@@ -232,14 +234,14 @@ module _ (ok : ℕ → Type 0) (h : (r : ℕ) → T (leb 1 r && leb r 7) → ok 
       then-ok ok (entries bytes (stateKinds bytes _ ac) 0 _ sc) _ (entries-ok _ (state-kinds-ok _ ac) 0 _ sc) (λ ss.
       then-ok ok (count bytes 1 2048 (ss .1)) _ (count-ok 1 2048 (ss .1)) (λ kc.
       then-ok ok (items (step bytes) 12 _ kc) _ (items-ok ok _ 12 step-ok _ kc) (λ ks.
-      need-then ok _ 3 _ _ (h 3 tt) tt)))))))))
+      need-then ok _ 3 _ _ (h 3 _ tt) tt)))))))))
 
 -- ---- the steps, 8 to 12
 
-abbrev OfCheck : ℕ → Type 0
-OfCheck r = (1 ≤ r) × (r ≤ 12)
+abbrev OfCheck : ℕ → ℕ → Type 0
+OfCheck r p = (1 ≤ r) × (r ≤ 12)
 
-of-check : (r : ℕ) → T (leb 1 r && leb r 12) → OfCheck r
+of-check : (r : ℕ) → T (leb 1 r && leb r 12) → (1 ≤ r) × (r ≤ 12)
 of-check r t = let b = and-out (leb 1 r) (leb r 12) t in (leb→le 1 r (b .0), leb→le r 12 (b .1))
 
 module _ (f : File) where
@@ -262,107 +264,100 @@ module _ (f : File) where
   unfolding checkFile checkFrom
   check-ok = then-ok OfCheck _ _ (steps-ok 0 _) (λ _. need-ok OfCheck _ 12 _ (of-check 12 tt))
 
--- ---- replies and answers
+  hand-back-ok : (n : ℕ) → Numbered OfCheck (handBack f n)
+  hand-back-ok n =
+      elim (decLt n (length (f .steps))) [
+        | yes l ↦ rw (hands-on f n l) tt
+        | no l ↦ rw (hands-none f n (omega arith)) (then-ok OfCheck _ _ (need-ok OfCheck _ 12 _ (of-check 12 tt)) (λ _. tt))
+      ]
 
-reply-number : (ok : ℕ → Type 0) (x : Result (Unit {0})) → Numbered ok x → (r p : ℕ) → replyTo x ≡ Refused r p → ok r
+-- ---- replies
+
+reply-refused : (x : Result (Unit {0})) (r p : ℕ) → replyTo x ≡ Refused r p → x ≡ refuse r p
 unfolding replyTo
-reply-number ok (refuse n q) h r p e = let same : n ≡ r = cc in subst ok same h
-reply-number ok (found u) h r p e = let z : _≡_ {A = ℕ} 0 1 = cc in absurd (omega arith)
+reply-refused (refuse n q) r p e = cc
+reply-refused (found u) r p e = let z : _≡_ {A = ℕ} 0 1 = cc in absurd (omega arith)
+
+reply-number : (ok : ℕ → ℕ → Type 0) (x : Result (Unit {0})) → Numbered ok x → (r p : ℕ) → replyTo x ≡ Refused r p → ok r p
+reply-number ok x h r p e = subst (Numbered ok) (reply-refused x r p e) h
 
 read-ok : (bytes : List ℕ) → Numbered OfCheck (readFile bytes)
-read-ok bytes = read-file-ok OfCheck (λ r t. let b = of-layout r t in (b .0, omega (arith, b .1))) bytes
+read-ok bytes = read-file-ok OfCheck (λ r p t. let b = of-layout r t in (b .0, omega (arith, b .1))) bytes
 
 pub refusal-numbers : RefusalNumbers
 unfolding replyOf
 refusal-numbers bytes = reply-number OfCheck _ (then-ok OfCheck _ _ (read-ok bytes) check-ok)
 
-abbrev OfNumbered : ℕ → Type 0
-OfNumbered r = OfCheck r ⊎ (r ≡ 18)
+-- ---- with a caller's list, or in rounds: those and one more
 
-also : {A : Type 0} (x : Result A) → Numbered OfCheck x → Numbered OfNumbered x
-also (refuse r p) h = inl h
-also (found a) h = tt
+module _ (more : ℕ → ℕ → Type 0) where
+  abbrev OrMore : ℕ → ℕ → Type 0
+  OrMore r p = OfCheck r p ⊎ more r p
 
-module _ (ok : ℕ → Type 0) (h : ok 18) where
+  also : {A : Type 0} (x : Result A) → Numbered OfCheck x → Numbered OrMore x
+  also (refuse r p) h = inl h
+  also (found a) h = tt
+
+module _ (ok : ℕ → ℕ → Type 0) (h : (p : ℕ) → ok 18 p) where
   unused-ok : (earlier xs : List ℕ) → Numbered ok (checkUnused earlier xs)
   unfolding checkUnused
   unused-ok earlier [] = tt
-  unused-ok earlier (x ∷ xs) = need-then ok _ 18 _ _ h (unused-ok (earlier ++ x ∷ []) xs)
+  unused-ok earlier (x ∷ xs) = need-then ok _ 18 _ _ (h _) (unused-ok (earlier ++ x ∷ []) xs)
 
   numbers-ok : (numbers : List ℕ) → Numbered ok (checkNumbers numbers)
   unfolding checkNumbers
-  numbers-ok numbers = need-then ok _ 18 _ _ h (unused-ok [] numbers)
+  numbers-ok numbers = need-then ok _ 18 _ _ (h _) (unused-ok [] numbers)
 
 -- a list is refused with 18
+abbrev OfList : ℕ → ℕ → Type 0
+OfList r p = r ≡ 18
+
 pub list-number : (numbers : List ℕ) (r p : ℕ) → checkNumbers numbers ≡ refuse r p → r ≡ 18
-list-number numbers r p e = subst (Numbered (λ n. n ≡ 18)) e (numbers-ok (λ n. n ≡ 18) refl numbers)
+list-number numbers r p e = subst (Numbered OfList) e (numbers-ok OfList (λ p. refl) numbers)
 
 pub numbered-refusals : NumberedRefusals
 unfolding replyNumbered checkRewritten
 numbered-refusals bytes numbers =
-    reply-number OfNumbered _
-    (then-ok OfNumbered _ _ (numbers-ok OfNumbered (inr refl) numbers) (λ _.
-    then-ok OfNumbered _ _ (also (readFile bytes) (read-ok bytes)) (λ f. also (checkFile (rewritten (ruleMeant numbers) f)) (check-ok _))))
+    let ok = OrMore OfList in
+    reply-number ok _
+    (then-ok ok _ _ (numbers-ok ok (λ p. inr refl) numbers) (λ _.
+    then-ok ok _ _ (also OfList (readFile bytes) (read-ok bytes)) (λ f.
+    also OfList (checkFile (rewritten (ruleMeant numbers) f)) (check-ok _))))
 
--- ---- rounds
+-- a round's numbers, with 17 at 0
+abbrev OfPlace : ℕ → ℕ → Type 0
+OfPlace r p = (r ≡ 17) × (p ≡ 0)
 
--- a refusal of a file, or 17 at 0
-abbrev OfRound : {A : Type 0} → Result A → Type 0
-OfRound (refuse r p) = OfCheck r ⊎ ((r ≡ 17) × (p ≡ 0))
-OfRound (found a) = Unit {0}
-
-of-round : {A : Type 0} (x : Result A) → Numbered OfCheck x → OfRound x
-of-round (refuse r p) h = inl h
-of-round (found a) h = tt
-
-then-round : {A B : Type 0} (x : Result A) (g : A → Result B) → Numbered OfCheck x → ((a : A) → OfRound (g a)) → OfRound (x >>= g)
-unfolding _>>=_
-then-round (refuse r p) g h k = inl h
-then-round (found a) g h k = k a
-
-need-round : {B : Type 0} (b : Bool) (g : Unit {0} → Result B) → OfRound (g tt) → OfRound (need b 17 0 >>= g)
-unfolding need _>>=_
-need-round true g h = h
-need-round false g h = inr (refl, refl)
-
-hand-back-ok : (f : File) (n : ℕ) → Numbered OfCheck (handBack f n)
-unfolding handBack
-hand-back-ok f n = go (ltb n (length (f .steps)))
-  where
-    go : (b : Bool) → Numbered OfCheck {A = Option ℕ} (elim b [ true ↦ found (some n) | false ↦ checkLast f >>= λ _. found none ])
-    go true = tt
-    go false = then-ok OfCheck _ _ (need-ok OfCheck _ 12 _ (of-check 12 tt)) (λ _. tt)
-
-round-number : (x : Result (Option ℕ)) → OfRound x → (r p : ℕ) → roundTo x ≡ round.Refused r p → OfCheck r ⊎ ((r ≡ 17) × (p ≡ 0))
+round-refused : (x : Result (Option ℕ)) (r p : ℕ) → roundTo x ≡ round.Refused r p → x ≡ refuse r p
 unfolding roundTo
-round-number (refuse n q) h r p e =
-    let a : n ≡ r = cc in
-    let b : q ≡ p = cc in
-    subst (λ (m : ℕ). OfCheck m ⊎ ((m ≡ 17) × (p ≡ 0))) a (subst (λ (m : ℕ). OfCheck n ⊎ ((n ≡ 17) × (m ≡ 0))) b h)
-round-number (found none) h r p e = let z : _≡_ {A = ℕ} 0 1 = cc in absurd (omega arith)
-round-number (found (some n)) h r p e = let z : _≡_ {A = ℕ} 0 1 = cc in absurd (omega arith)
+round-refused (refuse n q) r p e = cc
+round-refused (found none) r p e = let z : _≡_ {A = ℕ} 0 1 = cc in absurd (omega arith)
+round-refused (found (some n)) r p e = let z : _≡_ {A = ℕ} 0 1 = cc in absurd (omega arith)
 
 pub round-refusals : RoundRefusals
 unfolding roundOf checkRound
-round-refusals bytes from count =
-    round-number _
-    (then-round _ _ (read-ok bytes) (λ f.
-    need-round _ _ (then-round _ _ (steps-ok f from _) (λ _. of-round (handBack f (from + count)) (hand-back-ok f (from + count))))))
+round-refusals bytes from count r p e =
+    let ok = OrMore OfPlace in
+    subst (Numbered ok) (round-refused _ r p e)
+    (then-ok ok _ _ (also OfPlace (readFile bytes) (read-ok bytes)) (λ f.
+    need-then ok _ 17 0 _ (inr (refl, refl))
+    (then-ok ok _ _ (also OfPlace (checkSteps f from (take count (drop from (f .steps)))) (steps-ok f from _))
+    (λ _. also OfPlace (handBack f (from + count)) (hand-back-ok f (from + count))))))
 
--- ---- questions
+-- ---- answers
 
-abbrev OfQuestion : ℕ → Type 0
-OfQuestion r = ((1 ≤ r) × (r ≤ 7)) ⊎ (r ≡ 13)
+abbrev OfQuestion : ℕ → ℕ → Type 0
+OfQuestion r p = ((1 ≤ r) × (r ≤ 7)) ⊎ (r ≡ 13)
 
-answer-number : (x : Result Bool) → Numbered OfQuestion x → (r p : ℕ) → answerTo x ≡ answer.Refused r p → OfQuestion r
+answer-refused : (x : Result Bool) (r p : ℕ) → answerTo x ≡ answer.Refused r p → x ≡ refuse r p
 unfolding answerTo
-answer-number (refuse n q) h r p e = let same : n ≡ r = cc in subst OfQuestion same h
-answer-number (found true) h r p e = let z : _≡_ {A = ℕ} 0 1 = cc in absurd (omega arith)
-answer-number (found false) h r p e = let z : _≡_ {A = ℕ} 0 1 = cc in absurd (omega arith)
+answer-refused (refuse n q) r p e = cc
+answer-refused (found true) r p e = let z : _≡_ {A = ℕ} 0 1 = cc in absurd (omega arith)
+answer-refused (found false) r p e = let z : _≡_ {A = ℕ} 0 1 = cc in absurd (omega arith)
 
 pub answer-numbers : AnswerNumbers
 unfolding answerOf
-answer-numbers bytes e s =
-    answer-number _
-    (then-ok OfQuestion _ _ (read-file-ok OfQuestion (λ r t. inl (of-layout r t)) bytes) (λ f.
+answer-numbers bytes e s r p q =
+    subst (Numbered OfQuestion) (answer-refused _ r p q)
+    (then-ok OfQuestion _ _ (read-file-ok OfQuestion (λ r p t. inl (of-layout r t)) bytes) (λ f.
     need-then OfQuestion _ 13 0 _ (inr refl) tt))

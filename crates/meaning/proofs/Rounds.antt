@@ -84,7 +84,7 @@ module _ (f : File) where
   left-parts i k h = let c = bind-out (checkSome f i k) _ tt (sym (steps-after i k) ∙ h) in (c .1, c .2)
 
   -- what is left of the check from step i on
-  pub rest-start : checkFrom f 0 ≡ checkFile f
+  rest-start : checkFrom f 0 ≡ checkFile f
   unfolding checkFrom checkFile
   rest-start = refl
 
@@ -133,11 +133,11 @@ module _ (f : File) where
 
   -- ---- where a round leaves the check
 
-  hands-on : (n : ℕ) → n < length (f .steps) → handBack f n ≡ found (some n)
+  pub hands-on : (n : ℕ) → n < length (f .steps) → handBack f n ≡ found (some n)
   unfolding handBack
   hands-on n l = rw (lt-ltb n (length (f .steps)) l, handBack) refl
 
-  hands-none : (n : ℕ) → length (f .steps) ≤ n → handBack f n ≡ (checkLast f >>= λ _. found none)
+  pub hands-none : (n : ℕ) → length (f .steps) ≤ n → handBack f n ≡ (checkLast f >>= λ _. found none)
   unfolding handBack
   hands-none n l = rw (le-ltb n (length (f .steps)) l, handBack) refl
 
@@ -243,6 +243,14 @@ hands-back bytes from count next e =
     let d = bind-out (checkSome f from count) _ (some next) e₁ in
     let h = handed-place f (from + count) next (d .2) in
     (f, c .1, (let l = some-steps count (and-out (lawfulCount count) _ t .0) in let q = h .1 in omega arith), h .0, h .1)
+
+-- so a run comes to its end: what is handed back grows, and is below 2,048
+pub goes-further : (bytes : List ℕ) (from count next : ℕ) → roundOf bytes from count ≡ GoOn next → (from < next) × (next < 2048)
+goes-further bytes from count next e =
+    let h = hands-back bytes from count next e in
+    let few = file-read bytes (h .0) (h .1) .few-steps in
+    let l = h .3 in
+    (h .2, omega arith)
 
 -- ---- a round over any bytes
 

@@ -70,15 +70,13 @@ fn last_step(file: &[u8], at: Places) -> Reply
     ensures { λ r. ⌜ (stepAt (decoded (now (file .entry))) (at .steps - 1) .kind < 4 → r ≡ replyTo (checkLast (decoded (now (file .entry))))) ⌝ }
 {
     let last = at.steps - 1;
+    let place = last as u64;
     let s = step(file, at, last);
     let said = s.judgement;
-    let Judgement::Unsolvable = said else {
-        return Reply::Refused {
-            number: 12,
-            place: last as u64,
-        };
-    };
-    Reply::Accepted
+    match said {
+        Judgement::Unsolvable => Reply::Accepted,
+        _ => Reply::Refused { number: 12, place },
+    }
 }
 
 // All steps from one on, and then whether the last one says "unsolvable".

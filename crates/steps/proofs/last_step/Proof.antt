@@ -18,15 +18,13 @@ step-requires c κs =
 
 returns : tie.Need-returns
 returns c l =
-    let s = c .before in
-    let start = s .before .before .before in
-    last-says-not _ _ (placed-steps _ _ (start .pre)) (s .step .ensures) (c .match .keys2)
+    let s = c .before .before in
+    last-says _ _ (placed-steps _ _ (s .before .before .before .pre)) (s .step .ensures) l (c .enum-told .given .1)
 
 returns-2 : tie.Need-returns-2
 returns-2 c l =
-    let s = c .before .before in
-    let start = s .before .before .before in
-    last-says _ _ (placed-steps _ _ (start .pre)) (s .step .ensures) l (c .enum-told .given .1)
+    let s = c .before in
+    last-says-not _ _ (placed-steps _ _ (s .before .before .before .pre)) (s .step .ensures) (c .match .keys2)
 
 pub last-step-spec : {M : Type 1} → statement M
-last-step-spec = tie.close (tie.spec sub-last step-requires (λ c. search needs) (λ c. search needs) returns returns-2)
+last-step-spec = tie.close (tie.spec sub-last (λ c. search needs) step-requires (λ c. search needs) returns returns-2)
