@@ -1,6 +1,7 @@
 //! Rules 6 to 28: whether a step's premises and conclusion match the rule's pattern.
 //! A pattern is matched through kinds down to its letters; a letter is one entry
-//! number throughout, and 0, I, G and T match by kind.
+//! number throughout, and 0, I, G and T match by kind. A premise that would not pass itself
+//! may name entries that the file does not have: such a number is of no kind.
 
 use crate::fault::StepCause;
 use crate::file::{ActionSetKind, File, Judgement, StateSet, Step};
@@ -54,32 +55,33 @@ struct Context<'a> {
 
 /// Taking entries and judgements apart.
 impl Context<'_> {
-    fn set(&self, entry: u16) -> StateSet {
-        self.file.state_sets[entry as usize]
+    /// The entry of a number, where the file has one.
+    fn set(&self, entry: u16) -> Option<StateSet> {
+        self.file.state_sets.get(entry as usize).copied()
     }
 
     fn complement(&self, entry: u16) -> Option<u16> {
-        let StateSet::Complement(s) = self.set(entry) else { return None };
+        let Some(StateSet::Complement(s)) = self.set(entry) else { return None };
         Some(s)
     }
 
     fn union(&self, entry: u16) -> Option<(u16, u16)> {
-        let StateSet::Union(s, u) = self.set(entry) else { return None };
+        let Some(StateSet::Union(s, u)) = self.set(entry) else { return None };
         Some((s, u))
     }
 
     fn intersection(&self, entry: u16) -> Option<(u16, u16)> {
-        let StateSet::Intersection(s, u) = self.set(entry) else { return None };
+        let Some(StateSet::Intersection(s, u)) = self.set(entry) else { return None };
         Some((s, u))
     }
 
     fn progression(&self, entry: u16) -> Option<(u16, u16)> {
-        let StateSet::Progression(s, a) = self.set(entry) else { return None };
+        let Some(StateSet::Progression(s, a)) = self.set(entry) else { return None };
         Some((s, a))
     }
 
     fn regression(&self, entry: u16) -> Option<(u16, u16)> {
-        let StateSet::Regression(s, a) = self.set(entry) else { return None };
+        let Some(StateSet::Regression(s, a)) = self.set(entry) else { return None };
         Some((s, a))
     }
 
@@ -131,7 +133,7 @@ impl Context<'_> {
 /// Rules that conclude that a set is dead, or that the task is unsolvable.
 impl Context<'_> {
     fn ed(&self) -> Matched<()> {
-        need(self.set(self.first()) == StateSet::Empty, Conclusion)
+        need(self.set(self.first()) == Some(StateSet::Empty), Conclusion)
     }
 
     fn ud(&self) -> Matched<()> {
@@ -157,34 +159,34 @@ impl Context<'_> {
     fn pg(&self) -> Matched<()> {
         let s = self.closed_up_to_dead(self.progression_within(1)?)?;
         let (same, goal) = or_blame(self.intersection(self.dead(3)?), Premise(3))?;
-        need(same == s && self.set(goal) == StateSet::Goal, Premise(3))?;
+        need(same == s && self.set(goal) == Some(StateSet::Goal), Premise(3))?;
         need(self.first() == s, Conclusion)
     }
 
     fn pi(&self) -> Matched<()> {
         let s = self.closed_up_to_dead(self.progression_within(1)?)?;
         let (init, same) = self.within(3)?;
-        need(same == s && self.set(init) == StateSet::Init, Premise(3))?;
+        need(same == s && self.set(init) == Some(StateSet::Init), Premise(3))?;
         need(self.complement(self.first()) == Some(s), Conclusion)
     }
 
     fn rg(&self) -> Matched<()> {
         let s = self.closed_up_to_dead(self.regression_within(1)?)?;
         let (not_s, goal) = or_blame(self.intersection(self.dead(3)?), Premise(3))?;
-        need(self.complement(not_s) == Some(s) && self.set(goal) == StateSet::Goal, Premise(3))?;
+        need(self.complement(not_s) == Some(s) && self.set(goal) == Some(StateSet::Goal), Premise(3))?;
         need(self.complement(self.first()) == Some(s), Conclusion)
     }
 
     fn ri(&self) -> Matched<()> {
         let s = self.closed_up_to_dead(self.regression_within(1)?)?;
         let (init, not_s) = self.within(3)?;
-        need(self.complement(not_s) == Some(s) && self.set(init) == StateSet::Init, Premise(3))?;
+        need(self.complement(not_s) == Some(s) && self.set(init) == Some(StateSet::Init), Premise(3))?;
         need(self.first() == s, Conclusion)
     }
 
     fn unsolvable(&self, by_init: bool) -> Matched<()> {
         let wanted = if by_init { StateSet::Init } else { StateSet::Goal };
-        need(self.set(self.dead(1)?) == wanted, Premise(1))
+        need(self.set(self.dead(1)?) == Some(wanted), Premise(1))
     }
 }
 

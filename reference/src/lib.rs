@@ -19,6 +19,7 @@ pub mod names;
 pub mod numbering;
 pub mod pattern;
 pub mod question;
+pub mod rounds;
 pub mod rules;
 pub mod shape;
 pub mod show;
@@ -30,6 +31,7 @@ use std::fmt;
 
 use fault::Fault;
 pub use numbering::check_numbered;
+pub use rounds::{check_round, Round};
 
 /// What the checker returns.
 #[derive(Clone, Copy, Debug, PartialEq, Eq, Hash)]

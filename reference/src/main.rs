@@ -1,5 +1,5 @@
-//! The command line: check and ask, seeded cases and their replies, the text form with names, graphs, and a caller's
-//! own rule numbers.
+//! The command line: check, whole or a round of it, and ask, seeded cases and their replies, the text form with names,
+//! graphs, and a caller's own rule numbers.
 
 use std::io::{self, BufWriter, Read, Write};
 use std::process::ExitCode;
@@ -8,12 +8,15 @@ use reference::draw::{draw, Graph};
 use reference::generate::limits::workload;
 use reference::generate::numbered::numbered;
 use reference::generate::random::Random;
+use reference::generate::rounds::rounds;
 use reference::generate::{cases, damaged, Case};
 use reference::names::Names;
-use reference::{ask, assemble, check, check_numbered, cost, explain, named, numbering, show, Reply};
+use reference::{
+    ask, assemble, check, check_numbered, check_round, cost, explain, named, numbering, show, Reply,
+};
 
-const USAGE: &str = "usage: reference check [--numbers LIST] FILE | ask FILE ENTRY STATE | gen SEED COUNT | numbered SEED COUNT | \
-damaged FILE SEED COUNT | replies | records | assemble TEXTFILE | names TEXTFILE | show [--numbers LIST] FILE [NAMES] | \
+const USAGE: &str = "usage: reference check [--numbers LIST] FILE | round FILE FROM COUNT | ask FILE ENTRY STATE | gen SEED COUNT | \
+numbered SEED COUNT | rounds SEED COUNT | damaged FILE SEED COUNT | replies | records | assemble TEXTFILE | names TEXTFILE | show [--numbers LIST] FILE [NAMES] | \
 explain [--numbers LIST] FILE [NAMES] | draw FILE [table|steps] [NAMES] | cost FILE | renumber LIST FILE | workload NUMBER SEED   \
 (FILE may be - for standard input; LIST is numbers with commas or spaces between, or a file of bytes)";
 
@@ -87,12 +90,17 @@ fn run(words: &[&str]) -> Result<(), Stop> {
     match words {
         ["-h" | "--help"] => writeln!(out, "{USAGE}")?,
         ["check", rest @ ..] => writeln!(out, "{}", checked(rest)?)?,
+        ["round", file, from, count] => {
+            let (from, count) = (number(from)?, number(count)?);
+            writeln!(out, "{}", check_round(&read(file)?, from, count))?;
+        }
         ["ask", file, entry, state] => {
             let (entry, state) = (number(entry)?, number(state)?);
             writeln!(out, "{}", ask(&read(file)?, entry, state))?;
         }
         ["gen", seed, count] => write_lines(&mut out, cases(number(seed)?, number(count)?))?,
         ["numbered", seed, count] => write_lines(&mut out, numbered(number(seed)?, number(count)?))?,
+        ["rounds", seed, count] => write_lines(&mut out, rounds(number(seed)?, number(count)?))?,
         ["damaged", file, seed, count] => {
             write_lines(&mut out, damaged(&read(file)?, number(seed)?, number(count)?))?;
         }

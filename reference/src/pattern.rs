@@ -157,9 +157,13 @@ fn bind(letters: &mut Letters, letter: u8, entry: u16) -> bool {
     *letters[letter as usize].get_or_insert(entry) == entry
 }
 
+/// A number that the file does not have is of no kind, and a letter may stand for it.
 fn match_actions(file: &File, term: &ActionTerm, entry: u16, letters: &mut Letters) -> bool {
-    match (term, file.action_sets[entry as usize].kind) {
-        (ActionTerm::Letter(letter), _) => bind(letters, *letter, entry),
+    if let ActionTerm::Letter(letter) = term {
+        return bind(letters, *letter, entry);
+    }
+    let Some(set) = file.action_sets.get(entry as usize) else { return false };
+    match (term, set.kind) {
         (ActionTerm::All, kind) => kind == ActionSetKind::All,
         (ActionTerm::Union(s, t), ActionSetKind::Union(a, b)) => {
             match_actions(file, s, a, letters) && match_actions(file, t, b, letters)
@@ -168,9 +172,13 @@ fn match_actions(file: &File, term: &ActionTerm, entry: u16, letters: &mut Lette
     }
 }
 
+/// As above.
 fn match_term(file: &File, term: &Term, entry: u16, letters: &mut Letters) -> bool {
-    match (term, file.state_sets[entry as usize]) {
-        (Term::Letter(letter), _) => bind(letters, *letter, entry),
+    if let Term::Letter(letter) = term {
+        return bind(letters, *letter, entry);
+    }
+    let Some(set) = file.state_sets.get(entry as usize) else { return false };
+    match (term, *set) {
         (Term::Empty, StateSet::Empty) => true,
         (Term::Init, StateSet::Init) => true,
         (Term::Goal, StateSet::Goal) => true,
@@ -187,7 +195,7 @@ fn match_term(file: &File, term: &Term, entry: u16, letters: &mut Letters) -> bo
     }
 }
 
-/// Whether a judgement over entries of the file matches the claim, binding its letters.
+/// Whether a judgement matches the claim, binding its letters.
 pub fn match_claim(file: &File, claim: &Claim, found: Judgement, letters: &mut Letters) -> bool {
     match (claim, found) {
         (Claim::Dead(s), Judgement::Dead(a)) => match_term(file, s, a, letters),

@@ -14,6 +14,18 @@ fn check_and_ask() {
     assert_eq!(printed(&["ask", &cert, "4", "0"], b""), "refused 13 0\n");
 }
 
+#[test]
+fn rounds() {
+    let cert = sample("sample.cert");
+    let said = |from: &str, count: &str| printed(&["round", &cert, from, count], b"");
+    assert_eq!(said("0", "3"), "go on from 3\n");
+    assert_eq!(said("0x6", "2048"), "ended\n");
+    for (from, count) in [("0", "0"), ("0", "2049"), ("8", "1"), ("18446744073709551615", "2")] {
+        assert_eq!(said(from, count), "refused 17 0\n", "{from} {count}");
+    }
+    assert_eq!(printed(&["round", "-", "9", "0"], b""), "refused 1 0\n");
+}
+
 /// A list as numbers or as a file of bytes, for each command that takes one.
 #[test]
 fn a_callers_own_rule_numbers() {
@@ -73,16 +85,18 @@ fn cases_and_their_replies() {
     assert_eq!(replies.lines().count(), 60);
     let form = |reply: &str| ["accepted", "in", "out"].contains(&reply) || reply.starts_with("refused ");
     assert!(replies.lines().all(form), "{replies}");
-    let empty = b"check \nask 0 0 00\nnumbered - 00\nnumbered 0102\n";
-    assert_eq!(printed(&["replies"], empty), "refused 1 0\nrefused 1 0\nrefused 18 0\nrefused 18 2\n");
+    let empty = b"check \nask 0 0 00\nnumbered - 00\nnumbered 0102\nround 0 0 00\n";
+    let refused = "refused 1 0\nrefused 1 0\nrefused 18 0\nrefused 18 2\nrefused 1 0\n";
+    assert_eq!(printed(&["replies"], empty), refused);
     assert_eq!(printed(&["numbered", "4", "60"], b"").lines().count(), 60);
+    assert_eq!(printed(&["rounds", "4", "60"], b"").lines().count(), 60);
     assert_eq!(run(&["replies"], b"nonsense\n").status.code(), Some(1));
 }
 
 #[test]
 fn wrong_calls_print_the_usage_and_end_with_2() {
     let cert = sample("sample.cert");
-    let wrong: [&[&str]; 16] = [
+    let wrong: [&[&str]; 20] = [
         &[],
         &["check"],
         &["check", &cert, "more"],
@@ -93,6 +107,10 @@ fn wrong_calls_print_the_usage_and_end_with_2() {
         &["ask", "--numbers", "1", &cert, "3", "2"],
         &["renumber", &cert],
         &["numbered", "1"],
+        &["rounds", "1"],
+        &["round", &cert, "0"],
+        &["round", &cert, "0", "18446744073709551616"],
+        &["round", "--numbers", "1", &cert, "0", "1"],
         &["ask", &cert, "x", "0"],
         &["ask", &cert, "-1", "0"],
         &["gen", "1"],

@@ -7,23 +7,10 @@ use std::collections::BTreeMap;
 
 use reference::derivation;
 use reference::file::Judgement;
-use reference::generate::applications::{add_pool, judgement, patterns, places, Instance};
+use reference::generate::applications::{add_pool, apply_unproved, places};
 use reference::generate::builder::Builder;
 use reference::generate::random::Random;
 use reference::generate::tasks;
-
-/// Adds the premises, unproved, and an application of the rule to them.
-fn application(b: &mut Builder, rule: u8, slip: Option<usize>) {
-    let pattern = &patterns()[rule as usize - 6];
-    let mut instance = Instance::new(slip);
-    let mut premises = Vec::new();
-    for claim in &pattern.premises {
-        let premise = judgement(b, claim, &mut instance);
-        premises.push(b.step(1, premise, &[]));
-    }
-    let conclusion = judgement(b, &pattern.conclusion, &mut instance);
-    b.step(rule, conclusion, &premises);
-}
 
 #[test]
 fn applications_with_one_wrong_place() {
@@ -35,8 +22,7 @@ fn applications_with_one_wrong_place() {
             let mut b = Builder::new(task.clone(), &mut random);
             add_pool(&mut b);
             let slip = b.random.chance(80).then(|| b.random.below(places(rule)));
-            application(&mut b, rule, slip);
-            let last = b.file.steps[b.file.steps.len() - 1];
+            let last = apply_unproved(&mut b, rule, slip);
             let text = common::follows(&b.file, &last);
             let fast = derivation::check(&b.file, &last).is_ok();
             assert_eq!(fast, text, "seed {seed}, rule {rule}\n{}", shown(&b));
@@ -65,7 +51,7 @@ fn any_judgements_as_premises() {
         let mut b = Builder::new(task, &mut random);
         add_pool(&mut b);
         for rule in 6..=28 {
-            application(&mut b, rule, None);
+            apply_unproved(&mut b, rule, None);
         }
         let steps = b.file.steps.len();
         let applications = b.file.steps.iter().copied().filter(|step| step.rule > 5);

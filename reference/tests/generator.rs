@@ -7,6 +7,7 @@ use std::collections::BTreeMap;
 use common::kind;
 use reference::draft::{Draft, DraftActions};
 use reference::generate::numbered::numbered;
+use reference::generate::rounds::rounds;
 use reference::generate::{cases, Call, Case};
 use reference::layout;
 use reference::steps::check_step;
@@ -112,7 +113,7 @@ const PINNED: u64 = 0x356F_DC59_DF30_15FA;
 
 #[test]
 fn the_line_form_reads_back() {
-    for case in cases(9, 500).chain(numbered(9, 200)) {
+    for case in cases(9, 500).chain(numbered(9, 200)).chain(rounds(9, 200)) {
         assert_eq!(Case::parse(&case.line()), Some(case));
     }
     let empty = Case { call: Call::Check, bytes: Vec::new() };
@@ -120,6 +121,8 @@ fn the_line_form_reads_back() {
     assert_eq!(Case::parse("check"), Some(empty));
     let listless = Case { call: Call::Numbered(Vec::new()), bytes: vec![1] };
     assert_eq!(listless.line(), "numbered - 01");
+    let round = Case { call: Call::Round(u64::MAX, 2), bytes: vec![1] };
+    assert_eq!(round.line(), "round 18446744073709551615 2 01");
     for line in [
         "",
         "check 0",
@@ -130,12 +133,15 @@ fn the_line_form_reads_back() {
         "ask -1 0 00",
         "numbered",
         "numbered 0 00",
+        "round 1",
+        "round 1 x 00",
+        "round 18446744073709551616 2 00",
     ] {
         assert_eq!(Case::parse(line), None, "'{line}'");
     }
 }
 
-/// The list stands before the file, its length where a question has the entry.
+/// The list stands before the file, its length where a question has the entry; a round has its two numbers there.
 #[test]
 fn the_record_form() {
     let head = |kind: u8, first: u8, second: u8, length: u8| {
@@ -145,4 +151,5 @@ fn the_record_form() {
     assert_eq!(record(Call::Check), [head(0, 0, 0, 2), vec![7, 8]].concat());
     assert_eq!(record(Call::Ask(3, 4)), [head(1, 3, 4, 2), vec![7, 8]].concat());
     assert_eq!(record(Call::Numbered(vec![5, 0, 6])), [head(2, 3, 0, 2), vec![5, 0, 6, 7, 8]].concat());
+    assert_eq!(record(Call::Round(5, 9)), [head(3, 5, 9, 2), vec![7, 8]].concat());
 }

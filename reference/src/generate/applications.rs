@@ -3,7 +3,7 @@
 
 use std::sync::OnceLock;
 
-use crate::file::{ActionSetKind, Clause, Judgement, StateSet};
+use crate::file::{ActionSetKind, Clause, Judgement, StateSet, Step};
 use crate::generate::builder::{Builder, EMPTY};
 use crate::generate::certificates::kind;
 use crate::generate::tasks;
@@ -88,13 +88,13 @@ fn any_set(b: &mut Builder) -> u16 {
 
 /// Letters of a pattern with their entries. The place numbered `slip`, if any, gets
 /// another entry than its letter stands for: mostly one of equal content.
-pub struct Instance {
+struct Instance {
     letters: Letters,
     slip: Option<usize>,
 }
 
 impl Instance {
-    pub fn new(slip: Option<usize>) -> Instance {
+    fn new(slip: Option<usize>) -> Instance {
         Instance { letters: NO_LETTERS, slip }
     }
 
@@ -169,6 +169,19 @@ pub fn apply_nearly(b: &mut Builder, rule: u8) -> bool {
     })
 }
 
+/// Adds an application to premises that are not proved, right but for the place that slips: its step.
+pub fn apply_unproved(b: &mut Builder, rule: u8, slip: Option<usize>) -> Step {
+    let mut instance = Instance::new(slip);
+    let mut premises = Vec::new();
+    for claim in &pattern(rule).premises {
+        let premise = judgement(b, claim, &mut instance);
+        premises.push(b.step(1, premise, &[]));
+    }
+    let conclusion = judgement(b, &pattern(rule).conclusion, &mut instance);
+    let number = b.step(rule, conclusion, &premises);
+    b.file.steps[number as usize]
+}
+
 fn pattern(rule: u8) -> &'static Pattern {
     &patterns()[rule as usize - 6]
 }
@@ -183,7 +196,7 @@ fn proved_premises(b: &mut Builder, rule: u8, instance: &mut Instance) -> Option
 }
 
 /// The claim as a judgement over entries; free letters get any entry.
-pub fn judgement(b: &mut Builder, claim: &Claim, instance: &mut Instance) -> Judgement {
+fn judgement(b: &mut Builder, claim: &Claim, instance: &mut Instance) -> Judgement {
     match claim {
         Claim::Dead(s) => Judgement::Dead(state_set(b, s, instance)),
         Claim::Within(s, u) => {

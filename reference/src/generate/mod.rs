@@ -9,13 +9,14 @@ pub mod limits;
 pub mod mutate;
 pub mod numbered;
 pub mod random;
+pub mod rounds;
 pub mod tasks;
 pub mod worst;
 
 use crate::draft::Draft;
 use crate::generate::builder::Builder;
 use crate::generate::random::Random;
-use crate::{ask, check, check_numbered};
+use crate::{ask, check, check_numbered, check_round};
 
 /// What is done with a file.
 #[derive(Clone, Debug, PartialEq, Eq)]
@@ -25,6 +26,8 @@ pub enum Call {
     Numbered(Vec<u8>),
     /// Whether an entry holds a state.
     Ask(u64, u64),
+    /// From this step on, so many steps.
+    Round(u64, u64),
 }
 
 /// A file, and what is done with it.
@@ -39,7 +42,8 @@ impl Case {
         self.call == Call::Check
     }
 
-    /// The line form: `check HEX`, `numbered LISTHEX HEX` with `-` for an empty list, or `ask ENTRY STATE HEX`.
+    /// The line form: `check HEX`, `numbered LISTHEX HEX` with `-` for an empty list, `ask ENTRY STATE HEX` or
+    /// `round FROM COUNT HEX`.
     pub fn line(&self) -> String {
         let hex = to_hex(&self.bytes);
         match &self.call {
@@ -47,6 +51,7 @@ impl Case {
             Call::Numbered(list) if list.is_empty() => format!("numbered - {hex}"),
             Call::Numbered(list) => format!("numbered {} {hex}", to_hex(list)),
             Call::Ask(entry, state) => format!("ask {entry} {state} {hex}"),
+            Call::Round(from, count) => format!("round {from} {count} {hex}"),
         }
     }
 
@@ -59,22 +64,24 @@ impl Case {
                 "-" => Call::Numbered(Vec::new()),
                 list => Call::Numbered(from_hex(list)?),
             },
-            "ask" => Call::Ask(words.next()?.parse().ok()?, words.next()?.parse().ok()?),
+            "ask" => Call::Ask(number(&mut words)?, number(&mut words)?),
+            "round" => Call::Round(number(&mut words)?, number(&mut words)?),
             _ => return None,
         };
         let bytes = from_hex(words.next().unwrap_or(""))?;
         words.next().is_none().then_some(Case { call, bytes })
     }
 
-    /// The record form, for programs that read no text: 0, 1 for a question or 2 for a list (1 byte), entry or the list's length (8),
-    /// state or 0 (8), the file's length (4), all big-endian, the list, and the file, of which no more than 65,537 bytes are kept. A
-    /// list is kept whole; `crates/vectors` takes at most 1,024 bytes of one.
+    /// The record form, for programs that read no text: 0, 1 for a question, 2 for a list or 3 for a round (1 byte); entry, the list's
+    /// length or the step begun at (8); state, 0 or the count of steps (8); the file's length (4), all big-endian; the list, and the
+    /// file, of which no more than 65,537 bytes are kept. A list is kept whole; `crates/vectors` takes at most 1,024 bytes of one.
     pub fn record(&self) -> Vec<u8> {
         let bytes = &self.bytes[..self.bytes.len().min(65_537)];
         let (kind, first, second, list) = match &self.call {
             Call::Check => (0, 0, 0, &[][..]),
             Call::Ask(entry, state) => (1, *entry, *state, &[][..]),
             Call::Numbered(list) => (2, list.len() as u64, 0, &list[..]),
+            Call::Round(from, count) => (3, *from, *count, &[][..]),
         };
         let mut record = vec![kind];
         record.extend(first.to_be_bytes());
@@ -91,8 +98,14 @@ impl Case {
             Call::Check => check(&self.bytes).to_string(),
             Call::Numbered(list) => check_numbered(&self.bytes, list).to_string(),
             Call::Ask(entry, state) => ask(&self.bytes, *entry, *state).to_string(),
+            Call::Round(from, count) => check_round(&self.bytes, *from, *count).to_string(),
         }
     }
+}
+
+/// The next word as a number.
+fn number<'a>(words: &mut impl Iterator<Item = &'a str>) -> Option<u64> {
+    words.next()?.parse().ok()
 }
 
 fn to_hex(bytes: &[u8]) -> String {
@@ -145,6 +158,16 @@ fn case(random: &mut Random) -> Case {
         _ => return question_at_limit(random),
     };
     Case { call: Call::Check, bytes }
+}
+
+/// The file of a case that is a check.
+fn plain_file(random: &mut Random) -> Vec<u8> {
+    loop {
+        let case = case(random);
+        if case.is_check() {
+            return case.bytes;
+        }
+    }
 }
 
 /// A certificate with some further rule applications and true statements.

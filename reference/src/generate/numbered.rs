@@ -3,7 +3,7 @@
 
 use crate::generate::limits::shuffle;
 use crate::generate::random::Random;
-use crate::generate::{case, Call, Case};
+use crate::generate::{plain_file, Call, Case};
 use crate::layout;
 use crate::rules::RULES;
 
@@ -31,16 +31,6 @@ fn numbered_case(random: &mut Random) -> Case {
         _ => return faulty_case(random, list, bytes),
     }
     Case { call: Call::Numbered(list), bytes }
-}
-
-/// The file of a case that is a check.
-fn plain_file(random: &mut Random) -> Vec<u8> {
-    loop {
-        let case = case(random);
-        if case.is_check() {
-            return case.bytes;
-        }
-    }
 }
 
 /// A lawful list: any numbers; 1 to 28 as they are, in another order, or mixed with those that follow; or some of

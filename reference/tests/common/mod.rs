@@ -319,12 +319,12 @@ pub fn step_reply(file: &File, meaning: &Meaning, number: usize) -> u8 {
 pub fn follows(file: &File, step: &Step) -> bool {
     let pattern = parse(RULES[step.rule as usize - 1].text).expect("the rule text has the usual form");
     let mut letters = NO_LETTERS;
-    let judgement = |s: &Step| s.judgement().expect("the judgement kind is known");
-    let premises = pattern.premises.iter().zip(step.premises);
-    premises
-        .into_iter()
-        .all(|(claim, p)| match_claim(file, claim, judgement(&file.steps[p as usize]), &mut letters))
-        && match_claim(file, &pattern.conclusion, judgement(step), &mut letters)
+    // A judgement of no kind is matched by no claim.
+    let mut matches = |claim, step: &Step| {
+        step.judgement().is_some_and(|found| match_claim(file, claim, found, &mut letters))
+    };
+    let mut premises = pattern.premises.iter().zip(step.premises);
+    premises.all(|(claim, p)| matches(claim, &file.steps[p as usize])) && matches(&pattern.conclusion, step)
 }
 
 /// The reply for a file with lawful layout.

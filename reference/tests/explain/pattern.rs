@@ -9,7 +9,7 @@ use reference::explain::pattern::{Entry, MatchFault, Met, Mismatch, Part, Role};
 use reference::explain::Why;
 use reference::fault::StepCause;
 use reference::file::Step;
-use reference::generate::applications::{add_pool, judgement, patterns, places, Instance};
+use reference::generate::applications::{add_pool, apply_unproved, patterns, places};
 use reference::generate::builder::Builder;
 use reference::generate::random::Random;
 use reference::generate::tasks;
@@ -187,20 +187,6 @@ fn is_in_the_rule(rule: u8, found: &Mismatch) -> bool {
     claim == Some(&found.claim) && found.claim.contains(&term)
 }
 
-/// Adds the premises, unproved, and an application of the rule to them.
-fn application(b: &mut Builder, rule: u8, slip: Option<usize>) -> Step {
-    let pattern = &patterns()[rule as usize - 6];
-    let mut instance = Instance::new(slip);
-    let mut premises = Vec::new();
-    for claim in &pattern.premises {
-        let premise = judgement(b, claim, &mut instance);
-        premises.push(b.step(1, premise, &[]));
-    }
-    let conclusion = judgement(b, &pattern.conclusion, &mut instance);
-    b.step(rule, conclusion, &premises);
-    b.file.steps[b.file.steps.len() - 1]
-}
-
 fn label(parts: &Parts) -> &'static str {
     match parts {
         Parts::Judgement(..) => "judgement",
@@ -219,11 +205,11 @@ fn applications_with_one_wrong_place() {
             let mut b = Builder::new(task.clone(), &mut random);
             add_pool(&mut b);
             let slip = Some(b.random.below(places(rule)));
-            let mut step = application(&mut b, rule, slip);
+            let mut step = apply_unproved(&mut b, rule, slip);
             let count = RULES[rule as usize - 1].premises as usize;
             if count > 0 && b.random.chance(20) {
                 let other = b.random.pick(&[6, 8, 13, 20, 23]);
-                application(&mut b, other, None);
+                apply_unproved(&mut b, other, None);
                 step.premises[b.random.below(count)] = b.file.steps.len() as u16 - 1;
             }
             let found = reference::explain::pattern::mismatch(&b.file, &step);
