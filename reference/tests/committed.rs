@@ -26,7 +26,8 @@ fn cases(mut records: &[u8]) -> Vec<Case> {
         let call = match head[0] {
             0 => Call::Check,
             1 => Call::Ask(first, second),
-            _ => Call::Numbered(numbers.to_vec()),
+            2 => Call::Numbered(numbers.to_vec()),
+            _ => Call::Round(first, second),
         };
         list.push(Case { call, bytes: bytes.to_vec() });
         assert!(records.starts_with(&list[list.len() - 1].record()));
@@ -48,16 +49,18 @@ fn their_replies_are_those_given_today() {
 
 #[test]
 fn every_reply_and_rule_is_among_them() {
-    let mut replies = BTreeSet::new();
-    let mut numbered = BTreeSet::new();
+    let [mut replies, mut numbered, mut rounds] = [const { BTreeSet::new() }; 3];
     let mut passed = BTreeSet::new();
     for case in cases(&read("stdin")) {
         let reply = case.reply().split(' ').take(2).collect::<Vec<&str>>().join(" ");
-        if let Call::Numbered(_) = case.call {
-            numbered.insert(reply);
+        match case.call {
+            Call::Check | Call::Ask(..) => replies.insert(reply),
+            Call::Numbered(_) => numbered.insert(reply),
+            Call::Round(..) => rounds.insert(reply),
+        };
+        if !case.is_check() {
             continue;
         }
-        replies.insert(reply);
         let Ok(file) = layout::read(&case.bytes) else { continue };
         let steps = 0..file.steps.len();
         passed.extend(steps.take_while(|k| check_step(&file, *k).is_ok()).map(|k| file.steps[k].rule));
@@ -69,5 +72,6 @@ fn every_reply_and_rule_is_among_them() {
     let numbers: Vec<u8> = (1..=13).collect();
     assert_eq!(replies, all(&numbers, &["accepted", "in", "out"]));
     assert_eq!(numbered, all(&[&numbers[..12], &[18]].concat(), &["accepted"]));
+    assert_eq!(rounds, all(&[&numbers[..12], &[17]].concat(), &["ended", "go on"]));
     assert_eq!(passed, (1..=28).collect());
 }
