@@ -21,14 +21,24 @@ uint64_t certificate_check(const uint8_t *file, size_t length);
    from 0. Both come before the file is read. */
 uint64_t certificate_check_numbered(const uint8_t *file, size_t length, const uint8_t *numbers, size_t count);
 
+/* One round of a check, so that the caller can do other things between rounds: `count` steps from step `from` on, or as many as are
+   left. 0 where the last step was reached and says "unsolvable"; 1 to 2,047 is the step to go on from, `from` + `count`; else the
+   refusal. 17 at 0, after the refusals of the layout, says that `count` is 0 or over 2,048, or that the file has no step `from`; any
+   numbers may be passed. A failing step is refused at its number in the file.
+   By itself 0 says nothing about safety: a round judges its own steps, and takes what earlier ones say as it stands. Only a whole run
+   makes a file accepted: begun at step 0, each later round at the step handed back, with the same bytes each time. It ends with
+   certificate_check's reply, whatever the counts are; certificate_check is the run of one round of 2,048 steps. Nothing is kept from
+   one call to the next, so questions may be put between rounds. */
+uint64_t certificate_round(const uint8_t *file, size_t length, uint64_t from, uint64_t count);
+
 /* Whether a state is in the set of an entry of the file: CERTIFICATE_OUT, CERTIFICATE_IN, else the refusal. */
 uint64_t certificate_ask(const uint8_t *file, size_t length, uint64_t entry, uint64_t state);
 
 enum { CERTIFICATE_OUT = 0, CERTIFICATE_IN = 1 };
 
 /* A refusal is one number: the documents' refusal number times 2^32, plus its place. That is a byte of the file for the numbers 1
-   to 7, a step for 8 to 12, 0 for 13, and for 18 a byte of the list, or the list's length: 2^32 - 1 where that does not fit 32 bits.
-   What is no refusal has number 0. */
+   to 7, a step for 8 to 12, 0 for 13 and 17, and for 18 a byte of the list, or the list's length: 2^32 - 1 where that does not fit
+   32 bits. What is no refusal has number 0. */
 #define CERTIFICATE_NUMBER(code) ((uint32_t)((uint64_t)(code) >> 32))
 #define CERTIFICATE_PLACE(code) ((uint32_t)(code))
 
@@ -49,6 +59,7 @@ enum { CERTIFICATE_OUT = 0, CERTIFICATE_IN = 1 };
     EACH(CERTIFICATE_REFUSED_UNTRUE, 11, "basic statement untrue") \
     EACH(CERTIFICATE_REFUSED_LAST, 12, "the last step is not \"unsolvable\"") \
     EACH(CERTIFICATE_REFUSED_QUESTION, 13, "a question that cannot be asked") \
+    EACH(CERTIFICATE_REFUSED_ROUND, 17, "a round of no steps or over 2,048, or begun beyond the last step") \
     EACH(CERTIFICATE_REFUSED_NUMBERS, 18, "a list of rule numbers that is not 28 different bytes from 1 to 255")
 
 #define CERTIFICATE_CONSTANT(name, number, text) name = number,

@@ -1,5 +1,5 @@
-/* The proved checker from C, and from C++: what it replies to files, to changes of the sample, to lists of rule numbers and to
-   questions, printed for comparison with `expected`. The first file is the sample. */
+/* The proved checker from C, and from C++: what it replies to files, to changes of the sample, to lists of rule numbers, in rounds and
+   to questions, printed for comparison with `expected`. The first file is the sample. */
 #include "certificate.h"
 
 #include <stdio.h>
@@ -108,6 +108,50 @@ static void print_numbered(const uint8_t *sample, size_t length) {
     print_reply("a zero and no bytes", certificate_check_numbered(NULL, 0, numbers, RULES));
 }
 
+/* Whether a round's code is the step to go on from. */
+static int goes_on(uint64_t code) {
+    return code != 0 && CERTIFICATE_NUMBER(code) == 0;
+}
+
+static void print_round(const char *what, uint64_t code) {
+    if (goes_on(code)) {
+        printf("%s: go on from %u\n", what, (unsigned)code);
+    } else if (code == 0) {
+        printf("%s: ended\n", what);
+    } else {
+        print_reply(what, code);
+    }
+}
+
+/* A whole check in rounds of `count` steps, with a question after each: a round begins where the one before it got to. */
+static void print_run(const uint8_t *file, size_t length, uint64_t count) {
+    uint64_t code = 0;
+    do {
+        char what[64];
+        sprintf(what, "%u steps from step %u", (unsigned)count, (unsigned)code);
+        code = certificate_round(file, length, code, count);
+        print_round(what, code);
+        print_answer("meanwhile, state 2 in set 3", certificate_ask(file, length, 3, 2));
+    } while (goes_on(code));
+    print_reply("so the file is", code);
+}
+
+static void print_rounds(const uint8_t *sample, size_t length) {
+    static uint8_t changed[LIMIT];
+    print_run(sample, length, 3);
+    print_run(sample, length, 8);
+    memcpy(changed, sample, length);
+    changed[114] = 3; /* as above: step 1 is untrue */
+    print_run(changed, length, 1);
+    print_round("that file from step 3", certificate_round(changed, length, 3, 2048));
+    print_round("no steps", certificate_round(sample, length, 0, 0));
+    print_round("2,049 steps", certificate_round(sample, length, 0, 2049));
+    print_round("2^64 - 1 steps from step 2", certificate_round(sample, length, 2, UINT64_MAX));
+    print_round("from step 8 of 8", certificate_round(sample, length, 8, 1));
+    print_round("2 steps from step 2^64 - 1", certificate_round(sample, length, UINT64_MAX, 2));
+    print_round("no steps of no bytes", certificate_round(NULL, 0, 0, 0));
+}
+
 static void print_questions(const uint8_t *sample, size_t length) {
     print_answer("state 2 in set 3", certificate_ask(sample, length, 3, 2));
     print_answer("state 3 in set 3", certificate_ask(sample, length, 3, 3));
@@ -130,6 +174,7 @@ int main(int count, char **paths) {
     length = read_file(paths[1], bytes);
     print_changes(bytes, length);
     print_numbered(bytes, length);
+    print_rounds(bytes, length);
     print_questions(bytes, length);
     for (i = 1; i < count; i++) {
         length = read_file(paths[i], bytes);

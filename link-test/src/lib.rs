@@ -1,10 +1,11 @@
 //! The proved checker from Rust, by its C names (`crates/link`).
 
-use reference::{Answer, Reply};
+use reference::{Answer, Reply, Round};
 
 extern "C" {
     fn certificate_check(file: *const u8, length: usize) -> u64;
     fn certificate_check_numbered(file: *const u8, length: usize, numbers: *const u8, count: usize) -> u64;
+    fn certificate_round(file: *const u8, length: usize, from: u64, count: u64) -> u64;
     fn certificate_ask(file: *const u8, length: usize, entry: u64, state: u64) -> u64;
 }
 
@@ -20,6 +21,12 @@ pub fn check_numbered(file: &[u8], numbers: &[u8]) -> u64 {
     unsafe { certificate_check_numbered(file.as_ptr(), file.len(), numbers.as_ptr(), numbers.len()) }
 }
 
+/// The code of what a round of the proved checker's says.
+pub fn round(file: &[u8], from: u64, count: u64) -> u64 {
+    // As above.
+    unsafe { certificate_round(file.as_ptr(), file.len(), from, count) }
+}
+
 /// The code of the proved checker's answer.
 pub fn ask(file: &[u8], entry: u64, state: u64) -> u64 {
     // As above.
@@ -31,6 +38,15 @@ pub fn reply_code(reply: Reply) -> u64 {
     match reply {
         Reply::Accepted => 0,
         Reply::Refused { number, place } => refusal_code(number, place),
+    }
+}
+
+/// A round's code, as `certificate.h` says it.
+pub fn round_code(round: Round) -> u64 {
+    match round {
+        Round::Ended => 0,
+        Round::GoOn(step) => step,
+        Round::Refused { number, place } => refusal_code(number, place),
     }
 }
 

@@ -1,8 +1,9 @@
 //! The linked checker replies as the reference checker does.
 
-use link_test::{answer_code, ask, check, check_numbered, reply_code};
+use link_test::{answer_code, ask, check, check_numbered, reply_code, round, round_code};
 use reference::generate::numbered::numbered;
 use reference::generate::random::Random;
+use reference::generate::rounds::rounds;
 use reference::generate::{cases, Call};
 use reference::Reply;
 
@@ -18,6 +19,14 @@ fn same_numbered(file: &[u8], numbers: &[u8], what: &str) -> u64 {
     let code = check_numbered(file, numbers);
     let expected = reply_code(reference::check_numbered(file, numbers));
     assert_eq!(code, expected, "{what}: {numbers:?}: {file:02x?}");
+    code
+}
+
+/// Both checkers on one round.
+fn same_round(file: &[u8], from: u64, count: u64, what: &str) -> u64 {
+    let code = round(file, from, count);
+    let expected = round_code(reference::check_round(file, from, count));
+    assert_eq!(code, expected, "{what}: from {from}, {count} steps: {file:02x?}");
     code
 }
 
@@ -126,6 +135,74 @@ fn lists() {
         list[at] = number;
     }
     assert_eq!(reply_code(Reply::Refused { number: 18, place: 1 << 32 }), 18 << 32 | 0xFFFF_FFFF);
+}
+
+/// Whether a round's code is the step to go on from.
+fn goes_on(code: u64) -> bool {
+    code != 0 && code >> 32 == 0
+}
+
+/// Rounds of files of every sort, begun anywhere, of any counts.
+#[test]
+fn round_cases() {
+    let (mut ended, mut going, mut refused) = (0, 0, [0; 18]);
+    for (index, case) in rounds(8, 6000).enumerate() {
+        let Call::Round(from, count) = case.call else { panic!("case {index} is no round") };
+        match same_round(&case.bytes, from, count, &format!("case {index}")) {
+            0 => ended += 1,
+            code if goes_on(code) => going += 1,
+            code => refused[(code >> 32) as usize] += 1,
+        }
+    }
+    assert!(ended >= 500 && going >= 500 && refused[17] >= 500, "{ended} {going} {refused:?}");
+    assert!(refused[1..=12].iter().all(|count| *count >= 8), "{refused:?}");
+}
+
+/// Runs of rounds of up to so many steps, with a question after each: the last round's code is that of one whole check.
+#[test]
+fn whole_runs() {
+    let mut random = Random::new(9);
+    let (mut rounds, mut accepted) = (0, 0);
+    for (index, case) in cases(10, 1500).enumerate() {
+        let (file, what) = (&case.bytes, format!("case {index}"));
+        for most in [1, 4, 64, 2048] {
+            let mut code = 0;
+            loop {
+                code = same_round(file, code, random.between(1, most) as u64, &what);
+                rounds += 1;
+                if !goes_on(code) {
+                    break;
+                }
+                same_answer(file, random.below(12) as u64, random.below(16) as u64, &what);
+            }
+            assert_eq!(code, check(file), "{what}");
+            accepted += (code == 0) as usize;
+        }
+        assert_eq!(round(file, 0, 2048), check(file), "{what}");
+    }
+    assert!(rounds >= 20_000 && accepted >= 2000, "{rounds} {accepted}");
+}
+
+/// Every round of the samples near the limits, with each step's fields changed here and there.
+#[test]
+fn rounds_of_samples() {
+    for name in ["sample", "two_lists", "regression", "listed_actions_refused_9"] {
+        let mut file = sample(name);
+        let steps = reference::layout::read(&file).map_or(0, |file| file.steps.len());
+        let first = file.len() - 12 * steps;
+        for at in first..file.len() {
+            let byte = file[at];
+            for change in [0, 1, 2, 4, 128, 255] {
+                file[at] = byte ^ change;
+                for from in (0..steps as u64 + 2).chain([1 << 32, u64::MAX]) {
+                    for count in [0, 1, 2, steps as u64, 2048, 2049, u64::MAX] {
+                        same_round(&file, from, count, name);
+                    }
+                }
+            }
+            file[at] = byte;
+        }
+    }
 }
 
 /// Random bytes, plain and with a true length field and version.
