@@ -26,6 +26,18 @@ pub fn same(file: &Timed, build: &Build) -> Result<(), String> {
     Err(format!("{}: the proved checker says {ours}, its earlier build {before}", file.name))
 }
 
+/// How many rounds of so many steps a file takes. Both checkers end with the expected reply after as many.
+pub fn in_rounds(file: &Timed, steps: u64) -> Result<usize, String> {
+    let (ours, other) = (file.proved_in_rounds(steps), file.reference_in_rounds(steps));
+    if ours == other && ours.0 == file.expected {
+        return Ok(ours.1);
+    }
+    let said = |(reply, rounds): (Reply, usize)| format!("{reply} after {rounds} rounds of {steps}");
+    let Timed { name, expected, .. } = file;
+    let (ours, other) = (said(ours), said(other));
+    Err(format!("{name}: the proved checker says {ours}, the reference {other}; expected is {expected}"))
+}
+
 /// The answer to a question.
 pub fn answer(question: &Question) -> Result<Answer, String> {
     let Question { name, bytes, entry, state, expected } = question;

@@ -8,6 +8,7 @@ use reference::generate::random::Random;
 use reference::generate::worst::{busiest, no_model, two_right_leaves, Left, Order};
 use reference::layout::MAX_STATE_SETS;
 use reference::numbering::renumber;
+use reference::rounds::run;
 use reference::shape::Method;
 use reference::{Answer, Reply};
 
@@ -47,6 +48,16 @@ impl Timed {
         }
     }
 
+    /// The proved checker's reply by rounds of so many steps, and how many rounds there were.
+    pub fn proved_in_rounds(&self, steps: u64) -> (Reply, usize) {
+        run(|from| proved::round(proved::check_round(&self.bytes, from, steps)))
+    }
+
+    /// The same of the reference checker.
+    pub fn reference_in_rounds(&self, steps: u64) -> (Reply, usize) {
+        run(|from| reference::check_round(&self.bytes, from, steps))
+    }
+
     fn accepted(name: impl Into<String>, draft: &Draft) -> Timed {
         Timed::new(name, draft.encode(), Reply::Accepted)
     }
@@ -63,6 +74,9 @@ pub fn workloads() -> Vec<Timed> {
     let make = |number: usize| workload(&mut Random::new(SEED), number);
     names.iter().zip(1..).map(|(name, number)| Timed::accepted(*name, &make(number))).collect()
 }
+
+/// How many steps a round has where W4 is checked in rounds.
+pub const ROUNDS: [u64; 4] = [1, 16, 256, 2048];
 
 /// W4 as it is, and with its rule bytes rewritten by a list: rule k has the number 129 - k.
 pub fn without_and_with_list() -> [Timed; 2] {

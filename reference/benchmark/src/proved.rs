@@ -1,6 +1,6 @@
 //! The proved checker by its C names (`crates/link`), with the reference's replies.
 
-use reference::{Answer, Reply};
+use reference::{Answer, Reply, Round};
 
 extern "C" {
     pub(crate) fn certificate_check(file: *const u8, length: usize) -> u64;
@@ -10,6 +10,7 @@ extern "C" {
         numbers: *const u8,
         count: usize,
     ) -> u64;
+    pub(crate) fn certificate_round(file: *const u8, length: usize, from: u64, count: u64) -> u64;
     pub(crate) fn certificate_ask(file: *const u8, length: usize, entry: u64, state: u64) -> u64;
 }
 
@@ -25,6 +26,12 @@ pub fn check_numbered(file: &[u8], numbers: &[u8]) -> u64 {
     unsafe { certificate_check_numbered(file.as_ptr(), file.len(), numbers.as_ptr(), numbers.len()) }
 }
 
+/// The code of what a round of the proved checker's says.
+pub fn check_round(file: &[u8], from: u64, count: u64) -> u64 {
+    // As above.
+    unsafe { certificate_round(file.as_ptr(), file.len(), from, count) }
+}
+
 /// The code of the proved checker's answer.
 pub fn ask(file: &[u8], entry: u64, state: u64) -> u64 {
     // As above.
@@ -36,6 +43,15 @@ pub fn reply(code: u64) -> Reply {
     match code {
         0 => Reply::Accepted,
         _ => Reply::Refused { number: (code >> 32) as u8, place: (code as u32).into() },
+    }
+}
+
+/// What a round's code says, as `certificate.h` has it.
+pub fn round(code: u64) -> Round {
+    match code {
+        0 => Round::Ended,
+        1..=0xFFFF_FFFF => Round::GoOn(code),
+        _ => Round::Refused { number: (code >> 32) as u8, place: (code as u32).into() },
     }
 }
 

@@ -1,15 +1,17 @@
-//! The report: times on the workloads and the worst cases, what a list of rule numbers costs, how times grow, and the
-//! proved checker's stack, as Markdown. It ends at the first reply that is not as it should be. Where an
+//! The report: times on the workloads and the worst cases, what a list of rule numbers costs and what rounds do, how times
+//! grow, and the proved checker's stack, as Markdown. It ends at the first reply that is not as it should be. Where an
 //! earlier build of the proved checker is given, its times stand beside.
 
 use crate::agreement;
 use crate::earlier::Builds;
 use crate::files::{
     deepest, questions, series, without_and_with_list, workloads, worst_cases, Question, Series, Timed,
+    ROUNDS,
 };
 use crate::format::{count, head, ratio, row, time};
-use crate::timing::{compare, list_cost, Pace, Pair, Times};
+use crate::timing::{compare, list_cost, steps_at_a_time, Pace, Pair, Times};
 use crate::{proved, stack};
+use reference::layout::MAX_STEPS;
 
 /// Measures and prints, row by row.
 pub fn print(pace: Pace, builds: Option<&Builds>) -> Result<(), String> {
@@ -23,16 +25,22 @@ pub fn print(pace: Pace, builds: Option<&Builds>) -> Result<(), String> {
     for (who, times) in ["proved", "reference"].iter().zip(list_cost(pace, &lists)) {
         println!("{}", list_row(who, &lists[0], &times));
     }
+    println!("\n## In rounds\n\n{}", head(&IN_ROUNDS));
+    for steps in ROUNDS {
+        println!("{}", rounds_row(&workloads[3], steps, pace)?);
+    }
     println!("\n## Growth\n\n{}", head(&with_before(&GROWTH, builds.map(|_| BEFORE))));
     for one in &series {
         print_growth(one, pace, builds)?;
     }
     println!("\n## Deepest stack of the proved checker\n\n{}", head(&["call", ">bytes", "file or entry"]));
-    println!("{}", check_stack("check, workloads", &workloads)?);
-    println!("{}", check_stack("check, a list of rule numbers", &lists[1..])?);
-    println!("{}", check_stack("check, growth", series.iter().flat_map(|one| &one.files))?);
-    println!("{}", check_stack("check, worst cases", &worst)?);
-    println!("{}", check_stack("check, most entries", [&deepest()])?);
+    let whole = |file: &Timed| stack::of_round(&file.bytes, 0, MAX_STEPS as u64);
+    println!("{}", check_stack("check, workloads", &workloads, stack::of_file)?);
+    println!("{}", check_stack("check, a list of rule numbers", &lists[1..], stack::of_file)?);
+    println!("{}", check_stack("a round of all steps, workloads", &workloads, whole)?);
+    println!("{}", check_stack("check, growth", series.iter().flat_map(|one| &one.files), stack::of_file)?);
+    println!("{}", check_stack("check, worst cases", &worst, stack::of_file)?);
+    println!("{}", check_stack("check, most entries", [&deepest()], stack::of_file)?);
     for question in questions() {
         println!("{}", ask_stack(&question)?);
     }
@@ -103,6 +111,33 @@ fn list_row(who: &str, file: &Timed, times: &Pair) -> String {
     row(&[who, &file.name, &with, &without, &ratio(times.ratio()), &spread(times)])
 }
 
+const IN_ROUNDS: [&str; 8] = [
+    "file",
+    ">rounds",
+    ">proved",
+    ">reference",
+    ">ratio",
+    ">least..greatest",
+    ">proved, one check",
+    ">rounds / one check",
+];
+
+/// The times of whole runs in rounds of so many steps, each of which reads the layout again.
+fn rounds_row(file: &Timed, steps: u64, pace: Pace) -> Result<String, String> {
+    let rounds = agreement::in_rounds(file, steps)?;
+    let [both, whole] = steps_at_a_time(pace, file, steps);
+    Ok(row(&[
+        format!("{}, in rounds of {}", file.name, count(steps as usize)),
+        count(rounds),
+        time(both.first),
+        time(both.second),
+        ratio(both.ratio()),
+        spread(&both),
+        time(whole.second),
+        ratio(whole.ratio()),
+    ]))
+}
+
 const GROWTH: [&str; 8] =
     ["what grows", ">size", ">bytes", ">proved", ">grew by", ">reference", ">grew by", ">ratio"];
 
@@ -142,11 +177,15 @@ fn growth_row(
     row(&with_before(&cells, earlier))
 }
 
-/// The most stack that a check of one of the files uses, and which file that is.
-fn check_stack<'a>(call: &str, files: impl IntoIterator<Item = &'a Timed>) -> Result<String, String> {
+/// The most stack that a call with one of the files uses, and which file that is.
+fn check_stack<'a>(
+    call: &str,
+    files: impl IntoIterator<Item = &'a Timed>,
+    measure: impl Fn(&Timed) -> (usize, u64),
+) -> Result<String, String> {
     let (mut most, mut at) = (0, "");
     for file in files {
-        let (bytes, code) = stack::of_file(file);
+        let (bytes, code) = measure(file);
         if proved::reply(code) != file.expected {
             return Err(format!("{}: another reply on another stack", file.name));
         }

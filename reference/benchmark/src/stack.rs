@@ -4,7 +4,7 @@
 use std::arch::asm;
 
 use crate::files::Timed;
-use crate::proved::{certificate_ask, certificate_check, certificate_check_numbered};
+use crate::proved::{certificate_ask, certificate_check, certificate_check_numbered, certificate_round};
 
 /// Far more than the checker uses, in words of eight bytes.
 const WORDS: usize = 1 << 17;
@@ -22,15 +22,20 @@ pub fn of_file(file: &Timed) -> (usize, u64) {
     measured(function, &file.bytes, numbers.as_ptr() as u64, numbers.len() as u64)
 }
 
+/// The bytes of stack that a round writes to, its return address among them, and its code.
+pub fn of_round(file: &[u8], from: u64, count: u64) -> (usize, u64) {
+    measured(certificate_round as *const () as usize, file, from, count)
+}
+
 /// The bytes of stack that a question writes to, its return address among them, and its code.
 pub fn of_ask(file: &[u8], entry: u64, state: u64) -> (usize, u64) {
     measured(certificate_ask as *const () as usize, file, entry, state)
 }
 
-fn measured(function: usize, file: &[u8], entry: u64, state: u64) -> (usize, u64) {
+fn measured(function: usize, file: &[u8], third: u64, fourth: u64) -> (usize, u64) {
     let mut stack = vec![PAINT; WORDS];
-    // Safe: both functions take these arguments or the first two, and the stack is large enough.
-    let (top, code) = unsafe { call_on(&mut stack, function, file, entry, state) };
+    // Safe: each function takes these arguments or the first two, and the stack is large enough.
+    let (top, code) = unsafe { call_on(&mut stack, function, file, third, fourth) };
     let untouched = stack.iter().take_while(|word| **word == PAINT).count();
     assert!(untouched > WORDS / 2, "the stack for the measurement is too small");
     ((top - untouched) * 8, code)
@@ -46,7 +51,7 @@ fn measured(function: usize, file: &[u8], entry: u64, state: u64) -> (usize, u64
 /// # Safety
 /// `function` is the address of a C function with these parameters, or the first two of them,
 /// that is sound for any arguments, does not unwind and uses no more stack than there is.
-unsafe fn call_on(stack: &mut [u64], function: usize, file: &[u8], entry: u64, state: u64) -> (usize, u64) {
+unsafe fn call_on(stack: &mut [u64], function: usize, file: &[u8], third: u64, fourth: u64) -> (usize, u64) {
     let base = stack.as_mut_ptr();
     let top = stack.len() - (base.add(stack.len()) as usize % 16) / 8;
     let code: u64;
@@ -58,8 +63,8 @@ unsafe fn call_on(stack: &mut [u64], function: usize, file: &[u8], entry: u64, s
         inout("r12") base.add(top) => _,
         in("rdi") file.as_ptr(),
         in("rsi") file.len(),
-        in("rdx") entry,
-        in("rcx") state,
+        in("rdx") third,
+        in("rcx") fourth,
         lateout("rax") code,
         clobber_abi("C"),
     );

@@ -100,7 +100,24 @@ pub fn list_cost(pace: Pace, [without, with]: &[Timed; 2]) -> [Pair; 2] {
         _ => best(pace.least, || black_box(without).reference()),
     };
     let rounds = in_turns(pace, 4, time);
-    [0, 2].map(|who| Pair::of(&rounds.iter().map(|times| (times[who], times[who + 1])).collect::<Vec<_>>()))
+    [0, 2].map(|who| pair(&rounds, who, who + 1))
+}
+
+/// What the proved checker takes for a file by rounds of so many steps: beside the reference doing the same, and beside one
+/// whole check of its own.
+pub fn steps_at_a_time(pace: Pace, file: &Timed, steps: u64) -> [Pair; 2] {
+    let time = |who: usize| match who {
+        0 => best(pace.least, || black_box(file).proved_in_rounds(steps)),
+        1 => best(pace.least, || black_box(file).reference_in_rounds(steps)),
+        _ => best(pace.least, || black_box(file).proved()),
+    };
+    let rounds = in_turns(pace, 3, time);
+    [1, 2].map(|who| pair(&rounds, 0, who))
+}
+
+/// Two of those that were timed in each round.
+fn pair(rounds: &[Vec<f64>], first: usize, second: usize) -> Pair {
+    Pair::of(&rounds.iter().map(|times| (times[first], times[second])).collect::<Vec<_>>())
 }
 
 /// The times of so many in each round; the rounds take turns in who goes first.

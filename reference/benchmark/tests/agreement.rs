@@ -4,6 +4,7 @@
 use benchmark::earlier::{Build, Builds};
 use benchmark::files::{
     deepest, questions, series, without_and_with_list, workloads, worst_cases, Timed, ACTIONS, RIGHT_CLAUSES,
+    ROUNDS,
 };
 use benchmark::timing::{compare, Pace};
 use benchmark::{agreement, proved, stack};
@@ -45,10 +46,24 @@ fn both_give_the_expected_answer() {
     }
 }
 
+/// As many rounds as cover the steps; a refused file ends in the round that meets the fault.
+#[test]
+fn both_take_the_same_rounds() {
+    for file in workloads() {
+        for steps in ROUNDS {
+            let rounds = read(&file).steps.len().div_ceil(steps as usize);
+            assert_eq!(agreement::in_rounds(&file, steps), Ok(rounds), "{}", file.name);
+        }
+    }
+    assert_eq!(agreement::in_rounds(&deepest(), 1), Ok(1));
+}
+
 #[test]
 fn another_reply_than_expected_is_an_error() {
     let mut file = deepest();
     file.expected = Reply::Accepted;
+    let message = agreement::in_rounds(&file, 16).expect_err("the file is refused");
+    assert!(message.contains("refused 10 0 after 1 rounds of 16"), "{message}");
     let message = agreement::reply(&file).expect_err("the file is refused");
     assert!(message.contains("refused 10 0") && message.contains("expected is accepted"), "{message}");
     let mut question = questions().swap_remove(0);
@@ -160,6 +175,11 @@ fn stack_is_measured_by_the_same_call() {
     let [_, listed] = without_and_with_list();
     assert_eq!(stack::of_file(&listed).1, listed.proved());
     assert_eq!(stack::of_file(&tower), stack::of_check(&tower.bytes));
+    for (from, count) in [(0, 3), (3, 2048), (8, 1)] {
+        let (bytes, code) = stack::of_round(&workloads()[1].bytes, from, count);
+        assert_eq!(code, proved::check_round(&workloads()[1].bytes, from, count));
+        assert!(bytes >= 8);
+    }
     for question in questions() {
         let (bytes, code) = stack::of_ask(&question.bytes, question.entry, question.state);
         assert_eq!(proved::answer(code), question.expected);

@@ -4,7 +4,7 @@ use std::cell::Cell;
 use std::time::Duration;
 
 use benchmark::format::{count, head, ratio, row, time};
-use benchmark::proved::{answer, reply};
+use benchmark::proved::{answer, reply, round};
 use benchmark::timing::{best, median, Round, Times};
 use reference::{Answer, Reply};
 
@@ -65,6 +65,8 @@ fn rows_of_markdown() {
 fn codes_of_the_library() {
     assert_eq!(reply(0), Reply::Accepted);
     assert_eq!(reply(10 << 32 | 7), Reply::Refused { number: 10, place: 7 });
+    let said = [0, 1, 2047, 17 << 32, 9 << 32 | 2047].map(|code| round(code).to_string());
+    assert_eq!(said, ["ended", "go on from 1", "go on from 2047", "refused 17 0", "refused 9 2047"]);
     assert_eq!([0, 1].map(answer), [Answer::Out, Answer::In]);
     assert_eq!(answer(13 << 32), Answer::Refused { number: 13, place: 0 });
 }
