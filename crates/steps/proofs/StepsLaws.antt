@@ -6,7 +6,7 @@ use native.Mathlib.Omega.{arith}
 use mathlib.Core.Bool.{Bool, true, false}
 use mathlib.Core.Option.{Option, none, some}
 use mathlib.Core.List.{List, [], _∷_}
-use lib.ListN.{length, take, drop, getD, List·getD-eq-default}
+use lib.ListN.{length, take, drop, getD}
 use lib.Dec.{eqb}
 use borrow.Author.Tests.{ne-eqb}
 use denote.Enum.Declared.{tagOf}
@@ -123,11 +123,6 @@ module _ (f : File) (from count : ℕ) where
       ap replyTo (sym (ap (checkSome f k) z) ∙ h)
 
 -- ---- the rules that numbers stand for
-
--- past the last step there is no rule's number
-pub no-step : (f : File) (k : ℕ) → length (f .steps) ≤ k → stepAt f k .rule ≡ 0
-unfolding stepAt
-no-step f k l = ap (λ (s : Step). s .rule) (List·getD-eq-default (f .steps) _ l)
 
 module _ (g : ℕ → ℕ) (f : File) where
   as-many-steps : length (rewritten g f .steps) ≡ length (f .steps)

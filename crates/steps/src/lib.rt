@@ -17,13 +17,13 @@ ghost use Rattle.meaning.specs.Numbering.{rewritten};
 ghost use Rattle.certificate.specs.Known.{Placed, Known, decoded};
 ghost use Rattle.numbering.specs.Table.{Stands};
 
-// The rule that the number of step k stands for by a table; what byte 0 stands for where there is no such step.
-fn rule_of(file: &[u8], at: Places, rules: &RuleTable, k: u16) -> u8
+// The rule that the number of step k stands for by a table, where k is one of the steps before `end`.
+fn rule_of(file: &[u8], at: Places, rules: &RuleTable, k: u16, end: u16) -> u8
     requires { ⌜ Placed (now file) at ⌝ }
-    ensures { λ r. ⌜ r ≡ getD (now (rules .entry)) (stepAt (decoded (now (file .entry))) k .rule) 0 ⌝ }
-    ensures { λ r. ⌜ stepAt (decoded (now (file .entry))) k .rule < 256 ⌝ }
+    requires { ⌜ end ≤ at .steps ⌝ }
+    ensures { λ r. ⌜ (k < end → (r ≡ getD (now (rules .entry)) (stepAt (decoded (now (file .entry))) k .rule) 0) × (stepAt (decoded (now (file .entry))) k .rule < 256)) ⌝ }
 {
-    if at.steps <= k {
+    if end <= k {
         return rules[0];
     }
     let s = step(file, at, k);
@@ -46,12 +46,12 @@ pub fn check_steps(
     ensures { λ r. ⌜ ((g : ℕ → ℕ) → Stands (now (rules .entry)) g → r ≡ replyTo (checkSome (rewritten g (decoded (now (file .entry)))) from count)) ⌝ }
 {
     let end = from + count;
-    let mut next = rule_of(file, at, rules, from);
+    let mut next = rule_of(file, at, rules, from, end);
     let mut k = from;
     while k < end {
         let s = step(file, at, k);
         let rule = next;
-        next = rule_of(file, at, rules, k + 1);
+        next = rule_of(file, at, rules, k + 1, end);
         match check_step(file, at, index, k, rule, s) {
             StepReply::Passed => {}
             StepReply::Refused(number) => {

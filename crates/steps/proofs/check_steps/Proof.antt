@@ -18,7 +18,7 @@ use Rattle.steps.proofs.check_steps.Tie as tie
 abbrev Inv-loop : tie.InvT-loop
 Inv-loop file at index rules from count end next₀ k₀ next k =
     ((end ≡ from + count) × (end ≤ at .steps) × (end < 65536) × (k ≤ end))
-    × ((next ≡ getD rules (stepAt (decoded file) k .rule) 0) × (stepAt (decoded file) k .rule < 256))
+    × (k < end → (next ≡ getD rules (stepAt (decoded file) k .rule) 0) × (stepAt (decoded file) k .rule < 256))
     × ((g : ℕ → ℕ) → Stands rules g → Passing (rewritten g (decoded file)) from count k)
 
 abbrev μ-loop : tie.MeasureT-loop
@@ -41,7 +41,7 @@ returns c g stands =
     let start = i .before .before .before in
     let n = placed-steps _ _ (start .pre .0) in
     refused-as g _ _ _ _ (start .args .rules .now) stands (omega (arith, s .before .loop-test .taken)) (omega (arith, n, s .before .loop-test .taken))
-    (i .loop .inv .1) (r .check-step .ensures) _ (i .loop .inv .2 g stands) (c .before .number .given .1)
+    (i .loop .inv .1 (s .before .loop-test .taken)) (r .check-step .ensures) _ (i .loop .inv .2 g stands) (c .before .number .given .1)
 
 loop-again : tie.Need-loop-again Inv-loop μ-loop
 loop-again c =
@@ -56,7 +56,7 @@ loop-again c =
       λ g stands.
           passed-as g _ _ _ _ (start .args .rules .now) stands (omega (arith, s .before .loop-test .taken))
           (omega (arith, n, s .before .loop-test .taken))
-          (i .loop .inv .1) (r .check-step .ensures) (i .loop .inv .2 g stands) (c .enum-told .given .1),
+          (i .loop .inv .1 (s .before .loop-test .taken)) (r .check-step .ensures) (i .loop .inv .2 g stands) (c .enum-told .given .1),
     )
 
 returns-2 : tie.Need-returns-2 Inv-loop μ-loop
