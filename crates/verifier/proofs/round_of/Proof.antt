@@ -1,13 +1,15 @@
 -- `round_of` meets its contract: 17 for a count or a place out of range; else the reply to the round's own steps, and where they pass the
 -- step behind them, or, at the last one, that it has ended.
 -- Assumes nothing.
-use mathlib.Core.Path.{sym, ap, _∙_}
-use Prim.Native.Nat.{_<_}
+use mathlib.Core.Path.{_≡_, sym, _∙_}
+use Prim.Native.Nat.{_+_, _<_}
 use native.Mathlib.Nat.{le-of-lt}
 use native.Mathlib.Omega.{arith}
 use borrow.Author.Tests.{not-true, not-false}
 use borrow.Author.Needs.{needs}
+use Rattle.meaning.specs.declared.Round.the-variants.{GoOn}
 use Rattle.certificate.proofs.KnownLaws.{placed-steps}
+use Rattle.verifier.specs.Round.{orElse}
 use Rattle.verifier.proofs.CheckLaws.{lawful-place, unlawful-round, round-goes-on, round-ends}
 use Rattle.verifier.proofs.round_of.Statement.{statement}
 use Rattle.verifier.proofs.round_of.Tie as tie
@@ -46,7 +48,9 @@ returns-2 c =
     let s = c .before in
     let i = s .before .before .before .before in
     let start = i .before .before .before .before in
-    c .round-by .ensures
+    let told : c .round-by .result ≡ orElse (s .check-steps .result) (GoOn (start .args .from + start .args .count)) =
+    c .round-by .ensures in
+    told
     ∙ round-goes-on _ _ (start .pre .0 .read) _ _ _ (placed-steps _ _ (start .pre .0)) (sym (not-false _ (i .if1 .left)) ∙ i .before .is-lawful .ensures)
     (omega (arith, s .before .before .if2 .taken)) (s .check-steps .ensures (λ x. x) (s .before .before .before .own-numbers .ensures))
 
