@@ -187,7 +187,8 @@ module _ (f : File) where
     -- it goes on, with as much left to check as before, or ends with the reply
     abbrev OnOrEnd : Type 0
     OnOrEnd =
-        ((roundOf bytes from count ≡ GoOn (from + count)) × (from + count < length (f .steps)) × (checkFrom f (from + count) ≡ checkFrom f from))
+        ((roundOf bytes from count ≡ GoOn (from + count)) × (from + count < length (f .steps))
+        × (checkFrom f (from + count) ≡ checkFrom f from))
         ⊎ (roundOf bytes from count ≡ atEnd (replyTo (checkFrom f from)))
 
     on-or-end : OnOrEnd
@@ -201,7 +202,8 @@ module _ (f : File) where
         go : from + count < length (f .steps) → (x : Result (Unit {0})) → checkSome f from count ≡ x → OnOrEnd
         go l (refuse r p) e =
             inr (between l ∙ ap roundTo (bind-refused (λ _. found (some (from + count))) e)
-            ∙ ap (λ (x : Result (Unit {0})). atEnd (replyTo x)) (sym (rest-after from count ∙ bind-refused (λ _. checkFrom f (from + count)) e)))
+            ∙ ap (λ (x : Result (Unit {0})). atEnd (replyTo x))
+            (sym (rest-after from count ∙ bind-refused (λ _. checkFrom f (from + count)) e)))
         go l (found u) e = inl (
           goes-on l e,
           l,

@@ -6,13 +6,12 @@ use native.Mathlib.Omega.{arith}
 use mathlib.Core.Bool.{Bool, true, false}
 use mathlib.Core.Option.{Option, none, some}
 use mathlib.Core.List.{List, [], _∷_}
-use lib.ListN.{length, take, drop, getD}
+use lib.ListN.{length, drop, getD}
 use lib.Dec.{eqb}
 use borrow.Author.Tests.{ne-eqb}
 use denote.Enum.Declared.{tagOf}
 use types.Run.{OneOf, miss}
 use Rattle.certificate.specs.declared.Places.{Places}
-use Rattle.certificate.specs.declared.Judgement.{Judgement}
 use Rattle.certificate.specs.declared.Judgement.the-variants.{Unsolvable}
 use Rattle.certificate.proofs.Judgement as judgements
 use Rattle.certificate.specs.declared.StepReply.{StepReply}
@@ -21,7 +20,7 @@ use Rattle.meaning.specs.Result.{Result, refuse, found, _>>=_, need, known}
 use Rattle.meaning.specs.File.{Step, File, stepAt}
 use Rattle.certificate.specs.declared.Step as code
 use Rattle.certificate.specs.Views.{judgementOf, judgementAt, stepOf}
-use Rattle.certificate.specs.Known.{Placed, decoded}
+use Rattle.certificate.specs.Known.{Placed}
 use Rattle.certificate.proofs.KnownLaws.{read-file, placed-steps}
 use Rattle.formed.proofs.StepLaws.{passed-kind}
 use Rattle.meaning.specs.Step.{Check, statement, derivation, ruleAt, checkBy, checkStep}

@@ -3,11 +3,12 @@
 use mathlib.Core.Path.{_≡_, refl, sym, ap, _∙_}
 use Prim.Native.Nat.{ℕ, _+_, _≤_, _<_}
 use native.Mathlib.Omega.{arith}
-use mathlib.Core.Bool.{true, false, _&&_}
+use mathlib.Core.Bool.{Bool, true, false, not, _&&_}
 use mathlib.Core.Option.{some}
 use mathlib.Core.List.{List}
 use lib.ListN.{length}
 use lib.Dec.{T, ltb, ltb→lt}
+use borrow.Author.Tests.{not-true, not-false}
 use Rattle.meaning.specs.Result.{Result, refuse, found, _>>=_, need}
 use Rattle.meaning.specs.File.{File}
 use Rattle.meaning.specs.Layout.{readFile}
@@ -67,34 +68,35 @@ ending (Refused r p) = refl
 own-rules : (f : File) → rewritten (λ x. x) f ≡ f
 own-rules f = rewritten-same f (λ x. x) (λ x. refl)
 
--- a lawful round begins at one of the n steps
-pub lawful-place : (from count n : ℕ) → true ≡ (lawfulCount count && ltb from n) → from < n
-lawful-place from count n h = ltb→lt from n (and-out (lawfulCount count) (ltb from n) (holds (sym h)) .1)
+-- a round of a file with n steps, where a test b tells whether it is lawful
+module _ (from count n : ℕ) {b : Bool} (told : b ≡ (lawfulCount count && ltb from n)) where
+  lawful-both : not b ≡ false → T (lawfulCount count) × T (ltb from n)
+  lawful-both h = and-out (lawfulCount count) (ltb from n) (holds (sym told ∙ not-false b h))
 
--- of a file that is read and has n steps
-module _ (bytes : List ℕ) (f : File) (read : readFile bytes ≡ found f) (from count n : ℕ) (steps : n ≡ length (f .steps)) where
-  pub unlawful-round : false ≡ (lawfulCount count && ltb from n) → round.Refused 17 0 ≡ roundOf bytes from count
-  unfolding roundOf checkRound need _>>=_ roundTo
-  unlawful-round h = rw (read, sym steps, sym h) refl
+  pub lawful-place : not b ≡ false → from < n
+  lawful-place h = ltb→lt from n (lawful-both h .1)
 
-  module _ (h : true ≡ (lawfulCount count && ltb from n)) where
-    lawful : T (lawfulCount count)
-    lawful = and-out (lawfulCount count) (ltb from n) (holds (sym h)) .0
+  -- and the file is read
+  module _ (bytes : List ℕ) (f : File) (read : readFile bytes ≡ found f) (steps : n ≡ length (f .steps)) where
+    pub unlawful-round : not b ≡ true → round.Refused 17 0 ≡ roundOf bytes from count
+    unfolding roundOf checkRound need _>>=_ roundTo
+    unlawful-round h = rw (read, sym steps, sym told ∙ not-true b h) refl
 
-    below : from < length (f .steps)
-    below = let l = lawful-place from count n h in omega arith
+    below : not b ≡ false → from < length (f .steps)
+    below h = let l = lawful-place h in omega arith
 
-    pub round-goes-on : {r : Reply} → from + count < n → r ≡ replyTo (checkSome (rewritten (λ x. x) f) from count)
+    pub round-goes-on : {r : Reply} → not b ≡ false → from + count < n → r ≡ replyTo (checkSome (rewritten (λ x. x) f) from count)
         → orElse r (round.GoOn (from + count)) ≡ roundOf bytes from count
-    round-goes-on l e =
+    round-goes-on h l e =
         ap (λ (x : Reply). orElse x (round.GoOn (from + count))) (e ∙ ap (λ (x : File). replyTo (checkSome x from count)) (own-rules f))
-        ∙ going-on (checkSome f from count) (from + count) ∙ sym (between f bytes read from count below lawful (omega arith))
+        ∙ going-on (checkSome f from count) (from + count)
+        ∙ sym (between f bytes read from count (below h) (lawful-both h .0) (omega arith))
 
-    pub round-ends : {r : Reply} → n ≤ from + count → r ≡ replyTo (checkFrom (rewritten (λ x. x) f) from)
+    pub round-ends : {r : Reply} → not b ≡ false → n ≤ from + count → r ≡ replyTo (checkFrom (rewritten (λ x. x) f) from)
         → orElse r round.Ended ≡ roundOf bytes from count
-    round-ends {r} l e =
+    round-ends {r} h l e =
         ending r ∙ ap atEnd (e ∙ ap (λ (x : File). replyTo (checkFrom x from)) (own-rules f))
-        ∙ sym (at-last f bytes read from count below lawful (omega arith))
+        ∙ sym (at-last f bytes read from count (below h) (lawful-both h .0) (omega arith))
 
 -- of one that is not
 pub unread-round : (bytes : List ℕ) (from count r p : ℕ) → readFile bytes ≡ refuse r p → round.Refused r p ≡ roundOf bytes from count

@@ -40,8 +40,9 @@ returns c g stands =
     let i = s .before .before in
     let start = i .before .before .before in
     let n = placed-steps _ _ (start .pre .0) in
-    refused-as g _ _ _ _ (start .args .rules .now) stands (omega (arith, s .before .loop-test .taken)) (omega (arith, n, s .before .loop-test .taken))
-    (i .loop .inv .1 (s .before .loop-test .taken)) (r .check-step .ensures) _ (i .loop .inv .2 g stands) (c .before .number .given .1)
+    let l = s .before .loop-test .taken in
+    refused-as g _ _ _ _ (start .args .rules .now) stands (omega (arith, l)) (omega (arith, n, l))
+    (i .loop .inv .1 l) (r .check-step .ensures) _ (i .loop .inv .2 g stands) (c .before .number .given .1)
 
 loop-again : tie.Need-loop-again Inv-loop μ-loop
 loop-again c =
@@ -50,13 +51,13 @@ loop-again c =
     let i = s .before .before in
     let start = i .before .before .before in
     let n = placed-steps _ _ (start .pre .0) in
+    let l = s .before .loop-test .taken in
     let ends = i .loop .inv .0 in (
       (ends .0, ends .1, ends .2, search needs),
       r .before .rule-of2 .ensures,
       λ g stands.
-          passed-as g _ _ _ _ (start .args .rules .now) stands (omega (arith, s .before .loop-test .taken))
-          (omega (arith, n, s .before .loop-test .taken))
-          (i .loop .inv .1 (s .before .loop-test .taken)) (r .check-step .ensures) (i .loop .inv .2 g stands) (c .enum-told .given .1),
+          passed-as g _ _ _ _ (start .args .rules .now) stands (omega (arith, l)) (omega (arith, n, l)) (i .loop .inv .1 l)
+          (r .check-step .ensures) (i .loop .inv .2 g stands) (c .enum-told .given .1),
     )
 
 returns-2 : tie.Need-returns-2 Inv-loop μ-loop
@@ -67,5 +68,6 @@ returns-2 c g stands =
 pub check-steps-spec : {M : Type 1} → statement M
 check-steps-spec =
     tie.close (tie.spec
-    Inv-loop μ-loop (λ c. search needs) (λ c κs. search needs) loop-holds (λ c κs. search needs) (λ c. search needs) (λ c κs. search needs) check-step-requires
-    (λ c. search needs) (λ c. search needs) (λ c. search needs) returns (λ c. search needs) (λ c. search needs) loop-again returns-2)
+    Inv-loop μ-loop (λ c. search needs) (λ c κs. search needs) loop-holds (λ c κs. search needs) (λ c. search needs) (λ c κs. search needs)
+    check-step-requires (λ c. search needs) (λ c. search needs) (λ c. search needs) returns (λ c. search needs) (λ c. search needs)
+    loop-again returns-2)
