@@ -24,6 +24,10 @@ use Rattle.meaning.specs.declared.Answer.{Answer}
 unfoldable pub lawfulCount : ℕ → Bool
 lawfulCount count = leb 1 count && leb count 2048
 
+-- `count` steps from step `from` on, or as many as are left
+abbrev pub checkSome : File → ℕ → ℕ → Result (Unit {0})
+checkSome f from count = checkSteps f from (take count (drop from (f .steps)))
+
 -- where a round that got as far as step `next` leaves the check: at that step, or past the last one, which has to say "unsolvable"
 unfoldable pub handBack : File → ℕ → Result (Option ℕ)
 handBack f next = elim (ltb next (length (f .steps))) [
@@ -32,10 +36,6 @@ handBack f next = elim (ltb next (length (f .steps))) [
     _ ← checkLast f
     found none
 ]
-
--- `count` steps from step `from` on, or as many as are left
-abbrev pub checkSome : File → ℕ → ℕ → Result (Unit {0})
-checkSome f from count = checkSteps f from (take count (drop from (f .steps)))
 
 -- 17 for a count out of range or a place beyond the last step, and then the round's own steps
 unfoldable pub checkRound : File → ℕ → ℕ → Result (Option ℕ)
