@@ -38,17 +38,17 @@ pub safe-by-code : (bytes : List ℕ) {c : ℕ} → c ≡ codeOf (replyOf bytes)
 safe-by-code bytes e z =
     an-accepted-file-is-safe bytes (accepted (replyOf bytes) (λ r p q. a-refused-file-has-a-number-to-12 bytes r p q .0) (sym e ∙ z))
 
--- one of a first few numbers, or one more
-least : {r m n : ℕ} → 1 ≤ n → ((1 ≤ r) × (r ≤ m)) ⊎ (r ≡ n) → 1 ≤ r
-least l (inl h) = h .0
-least l (inr e) = omega (arith, e, l)
+-- one of a first few numbers, or another that is none of them and not 0
+least : {r m : ℕ} {X : Type 0} → (X → 1 ≤ r) → ((1 ≤ r) × (r ≤ m)) ⊎ X → 1 ≤ r
+least other (inl h) = h .0
+least other (inr x) = other x
 
 pub safe-by-list : (bytes numbers : List ℕ) {c : ℕ} → c ≡ codeOf (replyNumbered bytes numbers) → c ≡ 0
     → (f : File) × (readFile bytes ≡ found f) × Safe (f .task)
 safe-by-list bytes numbers e z =
     a-file-accepted-with-a-list-is-safe bytes numbers
-    (accepted (replyNumbered bytes numbers) (λ r p q. least (omega arith) (a-refusal-with-a-list-has-its-number bytes numbers r p q))
-    (sym e ∙ z))
+    (accepted (replyNumbered bytes numbers)
+    (λ r p q. least (λ n. omega (arith, n)) (a-refusal-with-a-list-has-its-number bytes numbers r p q)) (sym e ∙ z))
 
 told-in : (x : Answer) → ((r p : ℕ) → x ≡ answer.Refused r p → 1 ≤ r) → answerCodeOf x ≡ 1 → x ≡ answer.In
 unfolding answerCodeOf
@@ -66,7 +66,7 @@ pub told : (bytes : List ℕ) (e s : ℕ) {c : ℕ} → c ≡ answerCodeOf (answ
     → (c ≡ 1 → answerOf bytes e s ≡ answer.In) × (c ≡ 0 → answerOf bytes e s ≡ answer.Out)
 told bytes e s q =
     let h : (r p : ℕ) → answerOf bytes e s ≡ answer.Refused r p
-    → 1 ≤ r = λ r p w. least (omega arith) (a-refused-question-has-its-number bytes e s r p w) in
+    → 1 ≤ r = λ r p w. least (λ n. omega (arith, n)) (a-refused-question-has-its-number bytes e s r p w) in
     ((λ z. told-in (answerOf bytes e s) h (sym q ∙ z)), (λ z. told-out (answerOf bytes e s) h (sym q ∙ z)))
 
 told-ended : (x : Round) → ((n : ℕ) → x ≡ round.GoOn n → 0 < n) → ((r p : ℕ) → x ≡ round.Refused r p → 1 ≤ r) → roundCodeOf x ≡ 0
@@ -88,11 +88,8 @@ pub round-told : (bytes : List ℕ) (from count : ℕ) {c : ℕ} → c ≡ round
     × (0 < c → c < 4294967296 → (roundOf bytes from count ≡ round.GoOn c) × (c < 2048))
 round-told bytes from count {c} q =
     let x = roundOf bytes from count in
-    let h : (r p : ℕ) → x ≡ round.Refused r p → 1 ≤ r = λ r p w. number (a-refused-round-has-its-number bytes from count r p w) in (
+    let h : (r p : ℕ) → x ≡ round.Refused r p → 1 ≤ r =
+    λ r p w. least (λ n. omega (arith, n .0)) (a-refused-round-has-its-number bytes from count r p w) in (
       (λ z. told-ended x (λ n e. let l = goes-further bytes from count n e in omega (arith, l .0)) h (sym q ∙ z)),
       (λ low high. let e = told-on x c h q low high in (e, goes-further bytes from count c e .1)),
     )
-  where
-    number : {r p : ℕ} → ((1 ≤ r) × (r ≤ 12)) ⊎ ((r ≡ 17) × (p ≡ 0)) → 1 ≤ r
-    number (inl l) = l .0
-    number (inr l) = omega (arith, l .0)

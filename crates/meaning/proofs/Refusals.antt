@@ -273,7 +273,7 @@ module _ (f : File) where
 
 -- ---- replies
 
-reply-refused : (x : Result (Unit {0})) (r p : ℕ) → replyTo x ≡ Refused r p → x ≡ refuse r p
+pub reply-refused : (x : Result (Unit {0})) (r p : ℕ) → replyTo x ≡ Refused r p → x ≡ refuse r p
 unfolding replyTo
 reply-refused (refuse n q) r p e = cc
 reply-refused (found u) r p e = let z : _≡_ {A = ℕ} 0 1 = cc in absurd (omega arith)

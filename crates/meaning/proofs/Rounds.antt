@@ -83,7 +83,7 @@ module _ (f : File) where
   pub left-parts : (i k : ℕ) → Left i → (checkSome f i k ≡ found tt) × Left (i + k)
   left-parts i k h = let c = bind-out (checkSome f i k) _ tt (sym (steps-after i k) ∙ h) in (c .1, c .2)
 
-  -- what is left of the check from step i on
+  -- what is left of the check: all of it, nothing but the last step's judgement, or some steps and then the rest
   rest-start : checkFrom f 0 ≡ checkFile f
   unfolding checkFrom checkFile
   rest-start = refl

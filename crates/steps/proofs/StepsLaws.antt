@@ -35,6 +35,7 @@ use Rattle.numbering.specs.Table.{Stands}
 use Rattle.meaning.proofs.Rounds.{first-step, each-passes, all-left, rest-passed}
 use Rattle.meaning.proofs.Results.{bind-found, bind-refused}
 use Rattle.meaning.proofs.Judgements.{accepted-out}
+use Rattle.meaning.proofs.Refusals.{reply-refused}
 use Rattle.meaning.proofs.RuleBytes.{count-stays, step-stays, step-renamed, checked-same}
 
 -- ---- a step's refusal names the step
@@ -153,12 +154,6 @@ module _ (g : ℕ → ℕ) (f : File) where
 
 -- ---- all steps from one on, and the last one's judgement
 
-refused-then : (x : Result (Unit {0})) (g : Unit {0} → Result (Unit {0})) (r p : ℕ) → replyTo x ≡ Refused r p
-    → Refused r p ≡ replyTo (x >>= g)
-unfolding replyTo _>>=_
-refused-then (refuse n q) g r p e = sym e
-refused-then (found u) g r p e = let z : _≡_ {A = ℕ} 0 1 = cc in absurd (omega arith)
-
 -- the reply to the steps from one on, from the reply x to `count` of them, which are all that are left, and from what the last one says
 module _ (f : File) (from count : ℕ) {x : Reply} (all : from + count ≡ length (f .steps)) (e : x ≡ replyTo (checkSome f from count)) where
   left : x ≡ replyTo (checkSteps f from (drop from (f .steps)))
@@ -167,8 +162,8 @@ module _ (f : File) (from count : ℕ) {x : Reply} (all : from + count ≡ lengt
       e ∙ ap (λ (n : ℕ). replyTo (checkSome f from n)) m ∙ ap replyTo (all-left f from)
 
   from-refused : (r p : ℕ) → x ≡ Refused r p → Refused r p ≡ replyTo (checkFrom f from)
-  unfolding checkFrom
-  from-refused r p t = refused-then (checkSteps f from (drop from (f .steps))) (λ _. checkLast f) r p (sym left ∙ t)
+  unfolding checkFrom replyTo
+  from-refused r p t = ap replyTo (sym (bind-refused (λ _. checkLast f) (reply-refused _ r p (sym left ∙ t))))
 
   from-passed : from < length (f .steps) → x ≡ Accepted
       → (stepAt f (length (f .steps) - 1) .kind < 4) × (replyTo (checkLast f) ≡ replyTo (checkFrom f from))
