@@ -1,7 +1,7 @@
 -- Readings as the code answers them: a value is forgotten, a refusal keeps its number and place.
 -- Assumes nothing.
 use Prim.Native.Nat.{ℕ, _+_, _/_}
-use mathlib.Core.Bool.{Bool, false}
+use mathlib.Core.Bool.{Bool, true, false}
 use mathlib.Core.List.{List}
 use lib.Dec.{eqb}
 use Rattle.bodies.specs.declared.Fault.{Fault}
@@ -28,10 +28,20 @@ abbrev pub formFits : Form → ℕ → Bool
 formFits Unknown len = false
 formFits Bare len = eqb len 0
 formFits (Numbers m) len = upTo 2 256 len
-formFits States len = upTo 8 4096 len
+formFits (States most) len = upTo 8 4096 len
 formFits (Clauses two) len = upTo 16 256 len
 formFits (One a) len = eqb len 2
 formFits (Two a b) len = eqb len 4
+
+-- which of these a check's limits allow
+abbrev pub formAllows : Form → ℕ → Bool
+formAllows Unknown len = true
+formAllows Bare len = true
+formAllows (Numbers m) len = true
+formAllows (States most) len = upTo 8 most len
+formAllows (Clauses two) len = true
+formAllows (One a) len = true
+formAllows (Two a b) len = true
 
 -- what a body at a place, of that length, says
 abbrev pub formBody : List ℕ → ℕ → Form → ℕ → ℕ → Result (Unit {0})
@@ -40,7 +50,7 @@ formBody bytes n Bare p len = found tt
 formBody bytes n (Numbers m) p len = do
   _ ← ascending (reference bytes m) 2 0 p (len / 2)
   found tt
-formBody bytes n States p len = do
+formBody bytes n (States most) p len = do
   _ ← ascending (mask bytes n) 8 0 p (len / 8)
   found tt
 formBody bytes n (Clauses two) p len = do

@@ -1,4 +1,5 @@
-// The bodies of entries by what they hold: how long one may be, and replies 5 to 7 at the written places and in the written order.
+// The bodies of entries by what they hold: how long one may be, by the format and by a check's limits, and replies 5 to 7 at the written
+// places and in the written order.
 use bytes::u16_at;
 use bytes::u64_at;
 use task::all_facts;
@@ -8,7 +9,7 @@ ghost use Prim.Native.Nat.{_+_, _/_, _<_, _≤_};
 ghost use lib.ListN.{length};
 ghost use Rattle.meaning.specs.Layout.{items, ascending, mask, reference, clause, upTo};
 ghost use Rattle.bytes.specs.ClauseRule.{clauseRule};
-ghost use Rattle.bodies.specs.Faults.{faultFrom, formFits, formBody};
+ghost use Rattle.bodies.specs.Faults.{faultFrom, formFits, formAllows, formBody};
 
 // What a reader says: no fault, or document 01's number and place.
 pub enum Fault {
@@ -16,12 +17,12 @@ pub enum Fault {
     At { number: u8, place: u32 },
 }
 
-// What an entry's body holds, by its kind.
+// What an entry's body holds, by its kind. Of states, how many a check's limits allow.
 pub enum Form {
     Unknown,
     Bare,
     Numbers(u16),
-    States,
+    States(u16),
     Clauses(bool),
     One(u16),
     Two(u16, u16),
@@ -164,10 +165,25 @@ pub fn fits(form: Form, len: usize) -> bool
         Form::Unknown => false,
         Form::Bare => len == 0,
         Form::Numbers(_) => up_to(2, 256, len),
-        Form::States => up_to(8, 4096, len),
+        Form::States(_) => up_to(8, 4096, len),
         Form::Clauses(_) => up_to(16, 256, len),
         Form::One(_) => len == 2,
         Form::Two(_, _) => len == 4,
+    }
+}
+
+// Whether a check's limits allow it.
+pub fn allows(form: Form, len: usize) -> bool
+    ensures { λ r. ⌜ r ≡ formAllows form len ⌝ }
+{
+    match form {
+        Form::Unknown => true,
+        Form::Bare => true,
+        Form::Numbers(_) => true,
+        Form::States(most) => up_to(8, most as usize, len),
+        Form::Clauses(_) => true,
+        Form::One(_) => true,
+        Form::Two(_, _) => true,
     }
 }
 
@@ -180,7 +196,7 @@ pub fn body(form: Form, n: u8, part: &[u8], start: u32) -> Fault
         Form::Unknown => Fault::None,
         Form::Bare => Fault::None,
         Form::Numbers(bound) => numbers(part, bound, start),
-        Form::States => states(part, n, start),
+        Form::States(_) => states(part, n, start),
         Form::Clauses(two) => clauses(part, n, two, start),
         Form::One(bound) => reference(part, 0, bound, start),
         Form::Two(bound, other) => two_references(part, bound, other, start),

@@ -4,7 +4,7 @@ use mathlib.Core.Path.{_≡_, refl, sym, ap, _∙_, subst}
 use mathlib.Core.Option.{some}
 use Prim.Native.Nat.{ℕ, zero, suc, _+_, _-_, _/_, _≤_}
 use native.Mathlib.Omega.{arith}
-use mathlib.Core.Bool.{Bool}
+use mathlib.Core.Bool.{Bool, true}
 use mathlib.Core.List.{List, [], _∷_}
 use lib.ListN.{length, getElem?}
 use lib.Dec.{T, leb, leb→le}
@@ -78,7 +78,8 @@ module _ {A : Type 0} (bytes : List ℕ) where
       need-case (inside (2 + len) bytes p) 3 p _ x e₁ λ i e₂.
       need-case (leb 1 len) 4 p _ x e₂ λ l e₃.
       bind-case (known (getElem? ks (number 1 bytes (p + 2))) 4 (p + 2)) _ x e₃ λ k k! e₄.
-      need-case (k .fits (len - 1)) 4 p _ x e₄ λ t q.
+      need-case (k .fits (len - 1)) 4 p _ x e₄ λ t e₅.
+      need-case (k .allowed (len - 1)) 19 p _ x e₅ λ _ q.
       let h = field-stands bytes 2 p len len! in
       let some-len : 1 ≤ len = leb→le 1 len l in
       let in-file : p + (2 + len) ≤ length bytes = leb→le (p + (2 + len)) (length bytes) i in
@@ -125,7 +126,8 @@ module _ {A : Type 0} (bytes : List ℕ) where
 
     say-ascending : (size most : ℕ) (read : ℕ → Result ℕ) → Stands bytes size (numberAt size bytes) read → (make : List ℕ → A)
         → ((p len : ℕ) (xs : List ℕ) → length xs ≡ len / size → Items bytes size (numberAt size bytes) (p + 3) xs → P p len (make xs))
-        → KindSays P (record { fits = upTo size most; body = λ p len. ascending read size 0 p (len / size) >>= λ xs. found (make xs) })
+        → KindSays P
+        (record { fits = upTo size most; allowed = λ _. true; body = λ p len. ascending read size 0 p (len / size) >>= λ xs. found (make xs) })
     say-ascending size most read stands make h p len x b t e =
         bind-case (ascending read size 0 (p + 3) (len / size)) _ x e λ xs xs! q.
         say-list size (numberAt size bytes) read stands make h p len x b xs (ascending-items read size (len / size) 0 (p + 3) xs xs!) q
@@ -151,9 +153,9 @@ StateSays bytes j p len x = (stateOf (headOf bytes j p len) ≡ viewOf p x) × S
 abbrev ActionSays : List ℕ → ℕ → ℕ → ℕ → ActionSet → Type 0
 ActionSays bytes j p len x = (actionsOf (headOf bytes j p len) ≡ viewOfActions p x) × ActionItems bytes p x
 
-state-kinds-say : (bytes : List ℕ) (n m i : ℕ) → AllSay bytes (StateSays bytes) 0 (stateKinds bytes n m i)
+state-kinds-say : (bytes : List ℕ) (most n m i : ℕ) → AllSay bytes (StateSays bytes) 0 (stateKinds bytes most n m i)
 unfolding stateKinds stateOf stateTable spanOf viewOf viewOfBasic span
-state-kinds-say bytes n m i =
+state-kinds-say bytes most n m i =
     let P : ℕ → ℕ → ℕ → StateSet → Type 0 = StateSays bytes in
     say-plain bytes (P 0) (basic empty) (λ p len. (refl, tt))
     & say-plain bytes (P 1) (basic init) (λ p len. (refl, tt))
@@ -195,11 +197,11 @@ abbrev pub Ends : List ℕ → ℕ → Type 0
 Ends bytes p = p + 2 + numberAt 2 bytes p ≤ length bytes
 
 module _ (bytes : List ℕ) where
-  pub state-set-stands : (n m i p : ℕ) (x : StateSet) → entry bytes (stateKinds bytes n m i) p ≡ found x
+  pub state-set-stands : (most n m i p : ℕ) (x : StateSet) → entry bytes (stateKinds bytes most n m i) p ≡ found x
       → Ends bytes p × StateSetStands bytes p x
   unfolding stateEntryAt headAt
-  state-set-stands n m i p x e =
-      let s = entry-says bytes (StateSays bytes) (stateKinds bytes n m i) (state-kinds-say bytes n m i) p x e in
+  state-set-stands most n m i p x e =
+      let s = entry-says bytes (StateSays bytes) (stateKinds bytes most n m i) (state-kinds-say bytes most n m i) p x e in
       (s .1, record { inside = omega arith; view = s .2 .0; items = s .2 .1 })
 
   pub action-set-stands : (m i p : ℕ) (x : ActionSet) → entry bytes (actionKinds bytes m i) p ≡ found x

@@ -10,6 +10,7 @@ use Rattle.task.specs.Task.{Task}
 use Rattle.meaning.specs.Result.{found}
 use Rattle.meaning.specs.Bytes.{number}
 use Rattle.meaning.specs.File.{ActionSet, StateSet, Step, File}
+use Rattle.meaning.specs.Limits.{full}
 use Rattle.meaning.specs.Layout.{action, step, Kind, actionKinds, stateKinds, entry, entries, readTask, readFile}
 use Rattle.bytes.specs.Numbers.{numberAt}
 use Rattle.certificate.specs.Views.{afterEntry, entryPlace, placesOf, actionIn, stepRead}
@@ -141,11 +142,11 @@ file-parts bytes f e =
     let b = entries-stand bytes (ActionSetStands bytes) (actionKinds bytes (length (t .0 .actions)))
     (action-set-stands bytes (length (t .0 .actions))) (w .ac) 0 (t .1 + 2) (w .es)
     (count-stands bytes 0 256 (t .1) (w .ac) (w .ac!) .0) (w .es!) in
-    let c = entries-stand bytes (StateSetStands bytes) (stateKinds bytes (t .0 .facts) (w .ac))
-    (state-set-stands bytes (t .0 .facts) (w .ac)) (w .sc) 0 (w .es .1 + 2) (w .ss)
+    let c = entries-stand bytes (StateSetStands bytes) (stateKinds bytes (full .states) (t .0 .facts) (w .ac))
+    (state-set-stands bytes (full .states) (t .0 .facts) (w .ac)) (w .sc) 0 (w .es .1 + 2) (w .ss)
     (count-stands bytes 0 512 (w .es .1) (w .sc) (w .sc!) .0) (w .ss!) in
     let d = items-stand bytes 12 (stepRead bytes) (step bytes) (step-stands bytes) (w .kc) (w .ss .1 + 2) (w .ks)
-    (count-stands bytes 1 2048 (w .ss .1) (w .kc) (w .kc!) .0) (w .ks!) in
+    (count-stands bytes 1 (full .steps) (w .ss .1) (w .kc) (w .kc!) .0) (w .ks!) in
     let n = d .0 in
     let l = w .last in
     subst (Parts bytes) (w .whole)

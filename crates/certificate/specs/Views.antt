@@ -26,7 +26,8 @@ use Rattle.meaning.specs.Result.{Result, refuse, found}
 use Rattle.meaning.specs.File as file
 use Rattle.meaning.specs.File.{ActionSet, all, listed, either, empty, init, goal, explicit, horn, twoCnf}
 use Rattle.meaning.specs.File.{StateSet, basic, complement, intersection, union, progression, regression, Step, File, stepAt}
-use Rattle.meaning.specs.Layout.{readFile}
+use Rattle.meaning.specs.declared.Limits.{Limits}
+use Rattle.meaning.specs.Layout.{readWithin}
 use Rattle.bytes.specs.Numbers.{numberAt}
 
 -- the place after the entry at place p
@@ -55,13 +56,13 @@ placesOf bytes f =
       «steps_at» = k;
     }
 
--- the layout check's cases, with document 01's number and place
+-- the layout check's cases, with the number and place of documents 01 and 02
 unfoldable pub outlineTo : List ℕ → Result File → Outline
 outlineTo bytes (refuse r p) = Refused r p
 outlineTo bytes (found f) = Lawful (placesOf bytes f)
 
-unfoldable pub outlineOf : List ℕ → Outline
-outlineOf bytes = outlineTo bytes (readFile bytes)
+unfoldable pub outlineOf : Limits → List ℕ → Outline
+outlineOf l bytes = outlineTo bytes (readWithin l bytes)
 
 -- ---- an entry as it stands at place p: its kind picks the case
 

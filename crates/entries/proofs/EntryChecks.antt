@@ -11,11 +11,11 @@ use borrow.Author.Tests.{le-leb, lt-leb, not-true, not-false}
 use Rattle.bodies.specs.declared.Form.{Form}
 use Rattle.bodies.specs.declared.Fault.{Fault}
 use Rattle.bodies.specs.declared.Fault.the-variants.{At}
-use Rattle.meaning.specs.Result.{Result, refuse, found, _>>=_, known}
+use Rattle.meaning.specs.Result.{Result, refuse, found, _>>=_, need, known}
 use Rattle.meaning.specs.Bytes.{number, inside}
 use Rattle.bytes.specs.Numbers.{numberAt}
 use Rattle.meaning.specs.Layout.{Kind, field, entry}
-use Rattle.bodies.specs.Faults.{fault, faultFrom, formFits, formBody}
+use Rattle.bodies.specs.Faults.{fault, faultFrom, formFits, formAllows, formBody}
 use Rattle.entries.specs.Forms.{formKnown, formAt}
 use Rattle.bytes.proofs.ByteLaws.{inside-out, number-in}
 use Rattle.bodies.proofs.Faults.{forget, told, told-refused, goes-on, stops, passed, failed}
@@ -105,9 +105,11 @@ module _ (bytes : List ℕ) (n : ℕ) {A : Type 0} (kinds : List (Kind A)) (form
           (goes-on _ (b .read) ∙ passed 3 p _ (b .whole) ∙ passed 4 p _ (le-leb 1 len (k .some-bytes))
           ∙ is-known 4 (p + 2) _ (the-kind .1) ∙ failed 4 p _ (fits-same ∙ not-true w y))
 
-      entry-is : not w ≡ false → entry bytes kinds p ≡ the-kind .0 .body (p + 3) (len - 1)
+      -- it is whole, its kind is known, and its length fits: its limits and its body are left
+      entry-left : not w ≡ false
+          → entry bytes kinds p ≡ (need (the-kind .0 .allowed (len - 1)) 19 p >>= λ _. the-kind .0 .body (p + 3) (len - 1))
       unfolding entry
-      entry-is y =
+      entry-left y =
           goes-on _ (b .read) ∙ passed 3 p _ (b .whole) ∙ passed 4 p _ (le-leb 1 len (k .some-bytes))
           ∙ is-known 4 (p + 2) _ (the-kind .1) ∙ passed 4 p _ (fits-same ∙ not-false w y)
 
@@ -120,17 +122,27 @@ module _ (bytes : List ℕ) (n : ℕ) {A : Type 0} (kinds : List (Kind A)) (form
           let e″ : length (take size (drop (p + 3) bytes)) ≡ size = part-length bytes (p + 3) size (omega arith) in
           (omega arith, ap (formFits f) (e″ ∙ z) ∙ sym qw ∙ not-false w y)
 
-      -- the body, as a part of the file from place p + 3 to the entry's end
-      pub entry-body : not w ≡ false → (size : ℕ) → size ≡ len - 1
-          → {r : Fault} → r ≡ faultFrom (p + 3) (formBody (take size (drop (p + 3) bytes)) n f 0 (length (take size (drop (p + 3) bytes))))
-          → r ≡ fault (entry bytes kinds p)
-      entry-body y size z r =
-          let h = entry-ends b in
-          let l = k .some-bytes in
-          r
-          ∙ part-says bytes (p + 3) size (omega arith) n f (ap (formFits f) z ∙ sym qw ∙ not-false w y)
-          ∙ ap (λ (j : ℕ). fault (formBody bytes n f (p + 3) j)) z
-          ∙ ap (λ (g : Form). fault (formBody bytes n g (p + 3) (len - 1))) (sym (k .kind))
-          ∙ told (formBody bytes n (formAt forms (number 1 bytes (p + 2))) (p + 3) (len - 1)) (the-kind .0 .body (p + 3) (len - 1))
-          (sym (the-kind .2 .body (p + 3) (len - 1)))
-          ∙ ap fault (sym (entry-is y))
+      module _ {v : Bool} (qv : v ≡ formAllows f (len - 1)) where
+        allows-same : the-kind .0 .allowed (len - 1) ≡ v
+        allows-same = the-kind .2 .allows (len - 1) ∙ ap (λ (g : Form). formAllows g (len - 1)) (k .kind) ∙ sym qv
+
+        pub entry-over : not w ≡ false → not v ≡ true → At 19 p ≡ fault (entry bytes kinds p)
+        entry-over y z = refused (entry-left y ∙ failed 19 p _ (allows-same ∙ not-true v z))
+
+        entry-is : not w ≡ false → not v ≡ false → entry bytes kinds p ≡ the-kind .0 .body (p + 3) (len - 1)
+        entry-is y z = entry-left y ∙ passed 19 p _ (allows-same ∙ not-false v z)
+
+        -- the body, as a part of the file from place p + 3 to the entry's end
+        pub entry-body : not w ≡ false → not v ≡ false → (size : ℕ) → size ≡ len - 1
+            → {r : Fault} → r ≡ faultFrom (p + 3) (formBody (take size (drop (p + 3) bytes)) n f 0 (length (take size (drop (p + 3) bytes))))
+            → r ≡ fault (entry bytes kinds p)
+        entry-body y x size z r =
+            let h = entry-ends b in
+            let l = k .some-bytes in
+            r
+            ∙ part-says bytes (p + 3) size (omega arith) n f (ap (formFits f) z ∙ sym qw ∙ not-false w y)
+            ∙ ap (λ (j : ℕ). fault (formBody bytes n f (p + 3) j)) z
+            ∙ ap (λ (g : Form). fault (formBody bytes n g (p + 3) (len - 1))) (sym (k .kind))
+            ∙ told (formBody bytes n (formAt forms (number 1 bytes (p + 2))) (p + 3) (len - 1)) (the-kind .0 .body (p + 3) (len - 1))
+            (sym (the-kind .2 .body (p + 3) (len - 1)))
+            ∙ ap fault (sym (entry-is y x))

@@ -14,7 +14,7 @@ use Rattle.meaning.specs.Result.{Result, refuse, found, _>>=_}
 use Rattle.meaning.specs.Layout.{items, ascending, mask, reference, clause, Kind, plain, one, two, clauses, actionKinds, stateKinds}
 use Rattle.meaning.specs.Layout.{hornRule, twoCnfRule}
 use Rattle.entries.specs.Forms.{formKnown, formAt, actionForms, stateForms, formsBy, formsOf, setsBy, setsOf}
-use Rattle.bodies.specs.Faults.{formFits, formBody}
+use Rattle.bodies.specs.Faults.{formFits, formAllows, formBody}
 use Rattle.bytes.specs.ClauseRule.{clauseRule}
 use Rattle.bodies.proofs.Faults.{forget}
 
@@ -28,6 +28,7 @@ module _ (bytes : List ℕ) (n : ℕ) where
   pub record Same {A : Type 0} (k : Kind A) (f : Form) : Type 0 where
     pub form : formKnown f ≡ true
     pub fits : (len : ℕ) → k .fits len ≡ formFits f len
+    pub allows : (len : ℕ) → k .allowed len ≡ formAllows f len
     pub body : (p len : ℕ) → forget (k .body p len) ≡ forget (formBody bytes n f p len)
 
   infixr 5 _&_
@@ -54,7 +55,7 @@ module _ (bytes : List ℕ) (n : ℕ) where
 
   same-plain : {A : Type 0} (a : A) → Same (plain a) Bare
   unfolding plain
-  same-plain a = record { form = refl; fits = λ len. refl; body = λ p len. refl }
+  same-plain a = record { form = refl; fits = λ len. refl; allows = λ len. refl; body = λ p len. refl }
 
   -- whatever becomes of what was read
   kept : {A B C : Type 0} (r : Result A) (f : A → B) (g : A → C) → forget (r >>= λ x. found (f x)) ≡ forget (r >>= λ x. found (g x))
@@ -64,7 +65,7 @@ module _ (bytes : List ℕ) (n : ℕ) where
 
   same-one : {A : Type 0} (make : ℕ → A) (a : ℕ) → Same (one bytes make a) (One a)
   unfolding one
-  same-one make a = record { form = refl; fits = λ len. refl; body = λ p len. kept (reference bytes a p) _ _ }
+  same-one make a = record { form = refl; fits = λ len. refl; allows = λ len. refl; body = λ p len. kept (reference bytes a p) _ _ }
 
   two-kept : {A B C D : Type 0} (r : Result A) (s : Result B) (f : A → B → C) (g : A → B → D)
       → forget (r >>= λ x. s >>= λ y. found (f x y)) ≡ forget (r >>= λ x. s >>= λ y. found (g x y))
@@ -75,25 +76,50 @@ module _ (bytes : List ℕ) (n : ℕ) where
   same-two : {A : Type 0} (make : ℕ → ℕ → A) (a b : ℕ) → Same (two bytes make a b) (Two a b)
   unfolding two
   same-two make a b =
-      record { form = refl; fits = λ len. refl; body = λ p len. two-kept (reference bytes a p) (reference bytes b (p + 2)) _ _ }
+      record {
+        form = refl;
+        fits = λ len. refl;
+        allows = λ len. refl;
+        body = λ p len. two-kept (reference bytes a p) (reference bytes b (p + 2)) _ _;
+      }
 
   pub actions-alike : (m i : ℕ) → Alike (actionKinds bytes m i) (actionForms m i)
   unfolding actionKinds
   actions-alike m i =
       same-plain _
-      & record { form = refl; fits = λ len. refl; body = λ p len. kept (ascending (reference bytes m) 2 0 p (len / 2)) _ _ }
+      & record {
+        form = refl;
+        fits = λ len. refl;
+        allows = λ len. refl;
+        body = λ p len. kept (ascending (reference bytes m) 2 0 p (len / 2)) _ _;
+      }
       & same-two _ i i
       & end
 
-  pub states-alike : (m i : ℕ) → Alike (stateKinds bytes n m i) (stateForms m i)
+  pub states-alike : (most m i : ℕ) → Alike (stateKinds bytes most n m i) (stateForms most m i)
   unfolding stateKinds clauses clauseRule
-  states-alike m i =
+  states-alike most m i =
       same-plain _
       & same-plain _
       & same-plain _
-      & record { form = refl; fits = λ len. refl; body = λ p len. kept (ascending (mask bytes n) 8 0 p (len / 8)) _ _ }
-      & record { form = refl; fits = λ len. refl; body = λ p len. kept (items (clause bytes n hornRule) 16 p (len / 16)) _ _ }
-      & record { form = refl; fits = λ len. refl; body = λ p len. kept (items (clause bytes n twoCnfRule) 16 p (len / 16)) _ _ }
+      & record {
+        form = refl;
+        fits = λ len. refl;
+        allows = λ len. refl;
+        body = λ p len. kept (ascending (mask bytes n) 8 0 p (len / 8)) _ _;
+      }
+      & record {
+        form = refl;
+        fits = λ len. refl;
+        allows = λ len. refl;
+        body = λ p len. kept (items (clause bytes n hornRule) 16 p (len / 16)) _ _;
+      }
+      & record {
+        form = refl;
+        fits = λ len. refl;
+        allows = λ len. refl;
+        body = λ p len. kept (items (clause bytes n twoCnfRule) 16 p (len / 16)) _ _;
+      }
       & same-one _ i
       & same-two _ i i
       & same-two _ i i
@@ -105,6 +131,6 @@ module _ (bytes : List ℕ) (n : ℕ) where
 pub section-alike : (bytes : List ℕ) (s : Section) (i : ℕ) → Alike bytes (s .facts) (setsOf bytes s .kinds i) (formsOf s i)
 section-alike bytes s i = go (s .states)
   where
-    go : (b : Bool) → Alike bytes (s .facts) (setsBy b bytes (s .facts) (s .others) .kinds i) (formsBy b (s .others) i)
-    go true = states-alike bytes (s .facts) (s .others) i
+    go : (b : Bool) → Alike bytes (s .facts) (setsBy b bytes (s .most) (s .facts) (s .others) .kinds i) (formsBy b (s .most) (s .others) i)
+    go true = states-alike bytes (s .facts) (s .most) (s .others) i
     go false = actions-alike bytes (s .facts) (s .others) i

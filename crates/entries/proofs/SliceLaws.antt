@@ -122,7 +122,7 @@ module _ (bytes : List ℕ) (d len : ℕ) (h : d + len ≤ length bytes) where
   near-body n (Numbers m) t =
       moved-bind d (ascending (reference part m) 2 0 0 (len / 2)) _ _
       (near-ascending (reference part m) (reference bytes m) 2 (near-reference m) (len / 2) 0 0 (omega arith)) (λ _. refl)
-  near-body n States t =
+  near-body n (States most) t =
       moved-bind d (ascending (mask part n) 8 0 0 (len / 8)) _ _
       (near-ascending (mask part n) (mask bytes n) 8 (near-mask n) (len / 8) 0 0 (omega arith)) (λ _. refl)
   near-body n (Clauses two) t =

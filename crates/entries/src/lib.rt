@@ -1,6 +1,7 @@
-// One entry: its length, its kind and its body, with replies 3 to 7 at the written places and in the written order.
+// One entry: its length, its kind and its body, with replies 3 to 7 and 19 at the written places and in the written order.
 use bodies::Fault;
 use bodies::Form;
+use bodies::allows;
 use bodies::body;
 use bodies::fits;
 use reader::entry_head;
@@ -12,11 +13,13 @@ ghost use Rattle.meaning.specs.Layout.{entry};
 ghost use Rattle.bodies.specs.Faults.{fault};
 ghost use Rattle.entries.specs.Forms.{actionForms, stateForms, formsOf, formAt, formKnown, setsOf};
 
-// A section: the state sets over so many facts, or the action sets; and how many action sets, or actions, their entries may name.
+// A section: the state sets over so many facts, or the action sets; how many action sets, or actions, their entries may name; and how
+// many states an explicit set may list.
 pub struct Section {
     pub states: bool,
     pub facts: u8,
     pub others: u16,
+    pub most: u16,
 }
 
 // Whether k bytes from a place do not run past the end.
@@ -45,14 +48,14 @@ fn action_form(kind: u8, others: u16, i: u16) -> Form
 }
 
 // The form of a state set, kinds 0 to 10, that is entry i.
-fn state_form(kind: u8, others: u16, i: u16) -> Form
-    ensures { λ r. ⌜ r ≡ formAt (stateForms others i) kind ⌝ }
+fn state_form(kind: u8, most: u16, others: u16, i: u16) -> Form
+    ensures { λ r. ⌜ r ≡ formAt (stateForms most others i) kind ⌝ }
 {
     match kind {
         0 => Form::Bare,
         1 => Form::Bare,
         2 => Form::Bare,
-        3 => Form::States,
+        3 => Form::States(most),
         4 => Form::Clauses(false),
         5 => Form::Clauses(true),
         6 => Form::One(i),
@@ -69,7 +72,7 @@ fn form_at(s: Section, i: u16, kind: u8) -> Form
     ensures { λ r. ⌜ r ≡ formAt (formsOf s i) kind ⌝ }
 {
     if s.states {
-        state_form(kind, s.others, i)
+        state_form(kind, s.most, s.others, i)
     } else {
         action_form(kind, s.others, i)
     }
@@ -83,7 +86,7 @@ fn has_form(form: Form) -> bool
         Form::Unknown => false,
         Form::Bare => true,
         Form::Numbers(_) => true,
-        Form::States => true,
+        Form::States(_) => true,
         Form::Clauses(_) => true,
         Form::One(_) => true,
         Form::Two(_, _) => true,
@@ -110,14 +113,18 @@ pub fn entry(file: &[u8], s: Section, i: u16, place: u32) -> Fault
         return Fault::At { number: 4, place };
     }
     let form = form_at(s, i, head.kind);
+    let kind_at = place + 2;
     if !has_form(form) {
         return Fault::At {
             number: 4,
-            place: place + 2,
+            place: kind_at,
         };
     }
     if !fits(form, len - 1) {
         return Fault::At { number: 4, place };
+    }
+    if !allows(form, len - 1) {
+        return Fault::At { number: 19, place };
     }
     let start = at + 3;
     let end = at + 2 + len;

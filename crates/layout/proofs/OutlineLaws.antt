@@ -12,13 +12,14 @@ use Rattle.task.specs.Task.{Task}
 use Rattle.certificate.specs.declared.Places.{Places}
 use Rattle.meaning.specs.Result.{Result, refuse, found, _>>=_, need}
 use Rattle.meaning.specs.Bytes.{number}
+use Rattle.meaning.specs.declared.Limits.{Limits}
 use Rattle.meaning.specs.File.{File, ActionSet, StateSet, Step}
 use Rattle.certificate.specs.Views.{afterEntry, entryPlace, placesOf}
 use Rattle.bytes.specs.Numbers.{numberAt}
 use Rattle.meaning.specs.Layout.{items, field, count, mask, action, step, Kind, actionKinds, stateKinds, entry, entries, readTask}
 use Rattle.meaning.specs.Writing.{FitsAction}
 use Rattle.bodies.specs.Faults.{fault}
-use Rattle.layout.specs.Sections.{sectionAt, stepsAt, restAt}
+use Rattle.layout.specs.Sections.{sectionAt, stepCountAt, stepsAt, restAt}
 use Rattle.meaning.proofs.Reading.{task-walked}
 use Rattle.meaning.proofs.Results.{bind-case, need-case, found-same}
 use Rattle.meaning.proofs.Given.{action-gives, items-give, action-sets-give, state-sets-give}
@@ -102,7 +103,7 @@ agree-found x h a = a
 
 -- ---- the certificate
 
-module _ (bytes : List ℕ) (t : Task) where
+module _ (l : Limits) (bytes : List ℕ) (t : Task) where
   -- the place after the actions
   abbrev pub start : ℕ
   start = 24 + 24 * length (t .actions)
@@ -111,8 +112,9 @@ module _ (bytes : List ℕ) (t : Task) where
   unfoldable pub later : ℕ → List ActionSet × ℕ → Result File
   later ac es = do
     sc ← count bytes 0 512 (es .1)
-    ss ← entries bytes (stateKinds bytes (t .facts) ac) 0 (es .1 + 2) sc
+    ss ← entries bytes (stateKinds bytes (l .states) (t .facts) ac) 0 (es .1 + 2) sc
     kc ← count bytes 1 2048 (ss .1)
+    _ ← need (leb kc (l .steps)) 19 (ss .1)
     ks ← items (step bytes) 12 (ss .1 + 2) kc
     _ ← need (leb (length bytes) (ss .1 + 2 + 12 * kc)) 3 (ss .1 + 2 + 12 * kc)
     found (record { task = t; actionSets = es .0; stateSets = ss .0; steps = ks })
@@ -139,13 +141,13 @@ module _ (bytes : List ℕ) (t : Task) where
   module _ (ac sc kc : ℕ) (es : List ActionSet × ℕ) (ss : List StateSet × ℕ) (ks : List Step) (ac! : count bytes 0 256 start ≡ found ac)
       (es! : entries bytes (actionKinds bytes (length (t .actions))) 0 (start + 2) ac ≡ found es)
       (sc! : count bytes 0 512 (es .1) ≡ found sc)
-      (ss! : entries bytes (stateKinds bytes (t .facts) ac) 0 (es .1 + 2) sc ≡ found ss) (kc! : count bytes 1 2048 (ss .1) ≡ found kc)
+      (ss! : entries bytes (stateKinds bytes (l .states) (t .facts) ac) 0 (es .1 + 2) sc ≡ found ss) (kc! : count bytes 1 2048 (ss .1) ≡ found kc)
       (ks! : items (step bytes) 12 (ss .1 + 2) kc ≡ found ks) where
     places-are : placesOf bytes (record { task = t; actionSets = es .0; stateSets = ss .0; steps = ks }) ≡ placed (es .1) (ss .1)
     unfolding placesOf
     places-are =
         let la : length (es .0) ≡ ac = action-sets-give bytes (length (t .actions)) ac (start + 2) es es! .0 in
-        let ls : length (ss .0) ≡ sc = state-sets-give bytes (t .facts) ac sc (es .1 + 2) ss ss! .0 in
+        let ls : length (ss .0) ≡ sc = state-sets-give bytes (l .states) (t .facts) ac sc (es .1 + 2) ss ss! .0 in
         let lk : length ks ≡ kc = items-give (λ _. Unit {0}) (step bytes) 12 (λ p x e. tt) kc 0 (ss .1 + 2) ks ks! .0 in
         let a : 26 + 24 * length (t .actions) ≡ start + 2 = omega arith in
         let b : entryPlace bytes (26 + 24 * length (t .actions)) (length (es .0)) + 2 ≡ es .1 + 2 =
@@ -153,7 +155,7 @@ module _ (bytes : List ℕ) (t : Task) where
         ∙ ap (λ (p : ℕ). p + 2) (sym (entries-place bytes (actionKinds bytes (length (t .actions))) ac 0 (start + 2) es es!)) in
         let c : entryPlace bytes (entryPlace bytes (26 + 24 * length (t .actions)) (length (es .0)) + 2) (length (ss .0)) + 2 ≡ ss .1 + 2 =
         ap₂ (λ (p k : ℕ). entryPlace bytes p k + 2) b ls
-        ∙ ap (λ (p : ℕ). p + 2) (sym (entries-place bytes (stateKinds bytes (t .facts) ac) sc 0 (es .1 + 2) ss ss!)) in
+        ∙ ap (λ (p : ℕ). p + 2) (sym (entries-place bytes (stateKinds bytes (l .states) (t .facts) ac) sc 0 (es .1 + 2) ss ss!)) in
         let na : length (es .0) ≡ numberAt 2 bytes start = la ∙ count-is bytes 0 256 start ac ac! .0 in
         let ns : length (ss .0) ≡ numberAt 2 bytes (es .1) = ls ∙ count-is bytes 0 512 (es .1) sc sc! .0 in
         let nk : length ks ≡ numberAt 2 bytes (ss .1) = lk ∙ count-is bytes 1 2048 (ss .1) kc kc! .0 in
@@ -172,23 +174,27 @@ module _ (bytes : List ℕ) (t : Task) where
   Placed f x = placesOf bytes f ≡ placed (x .0) (x .1)
 
   -- the file that is read has its parts where the code finds them, and what is refused is refused alike
-  pub tail-agrees : Agree Placed tail (restAt bytes (t .facts) (length (t .actions)))
-  unfolding later tail restAt sectionAt stepsAt
+  pub tail-agrees : Agree Placed tail (restAt bytes l (t .facts) (length (t .actions)))
+  unfolding later tail restAt sectionAt stepCountAt stepsAt
   tail-agrees =
       agree-group tail (count bytes 0 256 start) _ _
       (agree-bind (count bytes 0 256 start) _ _ λ ac ac!.
       agree-bind (entries bytes (actionKinds bytes (length (t .actions))) 0 (start + 2) ac) _ _ λ es es!.
       subst (λ (o : ℕ). Agree {A = File} {B = ℕ × ℕ} Placed (later ac es)
-      (sectionAt bytes (record { states = true; facts = t .facts; others = o }) 512 (es .1)
-      >>= λ ss. stepsAt bytes (ss .1) >>= λ _. found (es .1, ss .1)))
+      (sectionAt bytes (record { states = true; facts = t .facts; others = o; most = l .states }) 512 (es .1)
+      >>= λ ss. stepsAt bytes (l .steps) (ss .1) >>= λ _. found (es .1, ss .1)))
       (count-is bytes 0 256 start ac ac! .0)
       (agree-group _ (count bytes 0 512 (es .1)) _ _
       (agree-bind (count bytes 0 512 (es .1)) _ _ λ sc sc!.
-      agree-bind (entries bytes (stateKinds bytes (t .facts) ac) 0 (es .1 + 2) sc) _ _ λ ss ss!.
-      agree-group _ (count bytes 1 2048 (ss .1)) _ _
+      agree-bind (entries bytes (stateKinds bytes (l .states) (t .facts) ac) 0 (es .1 + 2) sc) _ _ λ ss ss!.
+      agree-group _ (stepCountAt bytes (l .steps) (ss .1)) _ _
+      (agree-group _ (count bytes 1 2048 (ss .1)) _ _
       (agree-bind (count bytes 1 2048 (ss .1)) _ _ λ kc kc!.
+      agree-group _ (need (leb kc (l .steps)) 19 (ss .1)) _ _
+      (agree-bind (need (leb kc (l .steps)) 19 (ss .1)) _ _ λ _ _.
+      agree-found kc _ (
       agree-group _ (items (step bytes) 12 (ss .1 + 2) kc) _ _
       (agree-bind (items (step bytes) 12 (ss .1 + 2) kc) _ _ λ ks ks!.
       agree-group _ (need (leb (length bytes) (ss .1 + 2 + 12 * kc)) 3 (ss .1 + 2 + 12 * kc)) _ _
       (agree-bind (need (leb (length bytes) (ss .1 + 2 + 12 * kc)) 3 (ss .1 + 2 + 12 * kc)) _ _ λ _ _.
-      agree-found ks _ (values (places-are ac sc kc es ss ks ac! es! sc! ss! kc! ks!))))))))
+      agree-found ks _ (values (places-are ac sc kc es ss ks ac! es! sc! ss! kc! ks!)))))))))))

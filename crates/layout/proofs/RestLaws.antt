@@ -11,6 +11,7 @@ use Rattle.bodies.specs.declared.Fault.the-variants.{None, At}
 use Rattle.layout.specs.declared.rows.Walked.the-variants.{After, Refused as Stopped}
 use Rattle.layout.specs.declared.Rest.the-variants.{After as Both, Refused as Ended}
 use Rattle.entries.specs.declared.Section.{Section}
+use Rattle.meaning.specs.declared.Limits.{Limits}
 use Rattle.meaning.specs.Result.{Result, refuse, found}
 use Rattle.bytes.specs.Numbers.{numberAt}
 use Rattle.bodies.specs.Faults.{fault}
@@ -26,19 +27,19 @@ walked-not : {A : Type 0} (r : Result (A × ℕ)) {v : Walked} {n p : ℕ} → v
 walked-not (refuse m q) g e = cc
 walked-not (found x) g e = let z : _≡_ {A = ℕ} 0 1 = cc in absurd (omega arith)
 
-module _ (bytes : List ℕ) (n m : ℕ) where
+module _ (bytes : List ℕ) (l : Limits) (n m : ℕ) where
   -- the action sets
   abbrev First : Section
-  First = record { states = false; facts = n; others = m }
+  First = record { states = false; facts = n; others = m; most = l .states }
 
   pub first-bad : {v : Walked} {r q : ℕ} → v ≡ Stopped r q → v ≡ walked (sectionAt bytes First 256 (24 + 24 * m))
-      → Ended r q ≡ rest (restAt bytes n m)
+      → Ended r q ≡ rest (restAt bytes l n m)
   unfolding restAt
   first-bad g e = sym (ap rest (stops _ (walked-not (sectionAt bytes First 256 (24 + 24 * m)) g e)))
 
   -- the state sets
   abbrev Second : ℕ → Section
-  Second o = record { states = true; facts = n; others = o }
+  Second o = record { states = true; facts = n; others = o; most = l .states }
 
   module _ {v : Walked} {a o : ℕ} (g : v ≡ After a) (e : v ≡ walked (sectionAt bytes First 256 (24 + 24 * m)))
       (w : o ≡ numberAt 2 bytes (24 + 24 * m)) where
@@ -46,7 +47,7 @@ module _ (bytes : List ℕ) (n m : ℕ) where
     same-second = ap (λ (k : ℕ). sectionAt bytes (Second k) 512 a) (sym w)
 
     pub second-bad : {u : Walked} {r q : ℕ} → u ≡ Stopped r q → u ≡ walked (sectionAt bytes (Second o) 512 a)
-        → Ended r q ≡ rest (restAt bytes n m)
+        → Ended r q ≡ rest (restAt bytes l n m)
     unfolding restAt
     second-bad y f =
         sym (ap rest
@@ -54,18 +55,18 @@ module _ (bytes : List ℕ) (n m : ℕ) where
         ∙ stops _ (same-second ∙ walked-not (sectionAt bytes (Second o) 512 a) y f)))
 
     module _ {u : Walked} {s : ℕ} (y : u ≡ After s) (f : u ≡ walked (sectionAt bytes (Second o) 512 a)) where
-      pub third-bad : {x : Fault} {r q : ℕ} → x ≡ At r q → x ≡ fault (stepsAt bytes s) → Ended r q ≡ rest (restAt bytes n m)
+      pub third-bad : {x : Fault} {r q : ℕ} → x ≡ At r q → x ≡ fault (stepsAt bytes (l .steps) s) → Ended r q ≡ rest (restAt bytes l n m)
       unfolding restAt
       third-bad {r = r} {q} z h =
           sym (ap rest
           (goes-on _ (walked-to (sectionAt bytes First 256 (24 + 24 * m)) g e .1)
           ∙ goes-on _ (same-second ∙ walked-to (sectionAt bytes (Second o) 512 a) y f .1)
-          ∙ stops _ (refused-of (stepsAt bytes s) r q (sym z ∙ h))))
+          ∙ stops _ (refused-of (stepsAt bytes (l .steps) s) r q (sym z ∙ h))))
 
-      pub all-good : {x : Fault} → x ≡ None → x ≡ fault (stepsAt bytes s) → Both a s ≡ rest (restAt bytes n m)
+      pub all-good : {x : Fault} → x ≡ None → x ≡ fault (stepsAt bytes (l .steps) s) → Both a s ≡ rest (restAt bytes l n m)
       unfolding restAt
       all-good z h =
           sym (ap rest
           (goes-on _ (walked-to (sectionAt bytes First 256 (24 + 24 * m)) g e .1)
           ∙ goes-on _ (same-second ∙ walked-to (sectionAt bytes (Second o) 512 a) y f .1)
-          ∙ goes-on _ (found-of (stepsAt bytes s) (sym z ∙ h) .1)))
+          ∙ goes-on _ (found-of (stepsAt bytes (l .steps) s) (sym z ∙ h) .1)))

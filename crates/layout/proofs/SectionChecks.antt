@@ -21,7 +21,7 @@ use Rattle.meaning.specs.Layout.{items, field, count, step, Kind, entry, entrie
 use Rattle.bodies.specs.Faults.{fault}
 use Rattle.entries.specs.Forms.{setsOf}
 use Rattle.layout.specs.Rows.{walked, stepsFrom}
-use Rattle.layout.specs.Sections.{sectionAt, stepsAt}
+use Rattle.layout.specs.Sections.{sectionAt, stepCountAt, stepsAt}
 use Rattle.meaning.proofs.Results.{bind-case, need-case, found-same}
 use Rattle.bytes.proofs.ByteLaws.{inside-in, inside-past, inside-out, number-in}
 use Rattle.bodies.proofs.Faults.{forget, told-fine, told-refused, found-of, refused-of, goes-on, stops, passed, failed, forget-after}
@@ -147,39 +147,72 @@ module _ (bytes : List ℕ) where
       ∙ steps-cut k j (p + 12) (omega arith) (omega arith) (omega arith)
       ∙ ap (refuse 3) e
 
-  module _ (p : ℕ) where
-    pub steps-none : {v : Fault} {r q : ℕ} → v ≡ At r q → v ≡ fault (count bytes 1 2048 p) → At r q ≡ fault (stepsAt bytes p)
-    unfolding stepsAt
-    steps-none {r =
-        r} {q} g e = told-refused (stepsAt bytes p) r q (ap forget (stops _ (refused-of (count bytes 1 2048 p) r q (sym g ∙ e))))
+  module _ (most p : ℕ) where
+    -- the count, and the limit of it
+    pub step-count-none : {v : Fault} {r q : ℕ} → v ≡ At r q → v ≡ fault (count bytes 1 2048 p) → At r q ≡ fault (stepCountAt bytes most p)
+    unfolding stepCountAt
+    step-count-none {r = r} {q} g e =
+        told-refused (stepCountAt bytes most p) r q (ap forget (stops _ (refused-of (count bytes 1 2048 p) r q (sym g ∙ e))))
 
-    module _ {v : Fault} (fine : v ≡ None) (c : v ≡ fault (count bytes 1 2048 p)) {k : ℕ} (e : k ≡ numberAt 2 bytes p) {w : Walked}
+    module _ {v : Fault} (fine : v ≡ None) (c : v ≡ fault (count bytes 1 2048 p)) {k : ℕ} (e : k ≡ numberAt 2 bytes p) where
+      pub step-count-over : most < k → At 19 p ≡ fault (stepCountAt bytes most p)
+      unfolding stepCountAt
+      step-count-over l =
+          told-refused (stepCountAt bytes most p) 19 p (ap forget (goes-on _ (count-found bytes 1 2048 p fine c e)
+          ∙ failed 19 p _ (lt-leb k most l)))
+
+      pub step-count-fine : k ≤ most → None ≡ fault (stepCountAt bytes most p)
+      unfolding stepCountAt
+      step-count-fine l =
+          told-fine (stepCountAt bytes most p) (ap forget (goes-on _ (count-found bytes 1 2048 p fine c e)
+          ∙ passed 19 p _ (le-leb k most l)))
+
+    pub step-count-is : (k : ℕ) → stepCountAt bytes most p ≡ found k → count bytes 1 2048 p ≡ found k
+    unfolding stepCountAt
+    step-count-is k e =
+        bind-case (count bytes 1 2048 p) _ k e λ c c! e₁.
+        need-case (leb c most) 19 p _ k e₁ λ _ q.
+        c! ∙ q
+
+    -- the count is within the file
+    pub step-count-ends : {v : Fault} → v ≡ None → v ≡ fault (stepCountAt bytes most p) → p + 2 ≤ length bytes
+    step-count-ends fine e =
+        let f = found-of (stepCountAt bytes most p) (sym fine ∙ e) in count-is bytes 1 2048 p (f .0) (step-count-is (f .0) (f .1)) .1
+
+    pub steps-none : {v : Fault} {r q : ℕ} → v ≡ At r q → v ≡ fault (stepCountAt bytes most p) → At r q ≡ fault (stepsAt bytes most p)
+    unfolding stepsAt
+    steps-none {r = r} {q} g e =
+        told-refused (stepsAt bytes most p) r q (ap forget (stops _ (refused-of (stepCountAt bytes most p) r q (sym g ∙ e))))
+
+    module _ {v : Fault} (fine : v ≡ None) (c : v ≡ fault (stepCountAt bytes most p)) {k : ℕ} (e : k ≡ numberAt 2 bytes p) {w : Walked}
         (h : w ≡ walked (stepsFrom bytes (p + 2) k)) where
       -- the steps, which end at the place that the walk says
-      after-count : {A : Type 0} (g : ℕ → Result A) → (count bytes 1 2048 p >>= g) ≡ g k
-      after-count g = goes-on _ (count-found bytes 1 2048 p fine c e)
+      after-count : {A : Type 0} (g : ℕ → Result A) → (stepCountAt bytes most p >>= g) ≡ g k
+      after-count g =
+          let f = found-of (stepCountAt bytes most p) (sym fine ∙ c) in
+          goes-on _ (f .1 ∙ ap found (count-is bytes 1 2048 p (f .0) (step-count-is (f .0) (f .1)) .0 ∙ sym e))
 
-      pub steps-short : {r q : ℕ} → w ≡ Stopped r q → At r q ≡ fault (stepsAt bytes p)
+      pub steps-short : {r q : ℕ} → w ≡ Stopped r q → At r q ≡ fault (stepsAt bytes most p)
       unfolding stepsAt
       steps-short {r} {q} l =
-          told-refused (stepsAt bytes p) r q (ap forget (after-count _
+          told-refused (stepsAt bytes most p) r q (ap forget (after-count _
           ∙ stops _ (stopped-at (items (step bytes) 12 (p + 2) k) (p + 2 + 12 * k) l h)))
 
       module _ {end : ℕ} (l : w ≡ After end) where
         all-steps : (ks : List Step) × (items (step bytes) 12 (p + 2) k ≡ found ks) × (end ≡ p + 2 + 12 * k)
         all-steps = gone-to (items (step bytes) 12 (p + 2) k) (p + 2 + 12 * k) l h
 
-        pub steps-more : end < length bytes → At 3 end ≡ fault (stepsAt bytes p)
+        pub steps-more : end < length bytes → At 3 end ≡ fault (stepsAt bytes most p)
         unfolding stepsAt
         steps-more g =
             let a = all-steps in
             let t : p + 2 + 12 * k < length bytes = (let z = a .2 in omega arith) in
-            told-refused (stepsAt bytes p) _ _ (ap forget (after-count _ ∙ goes-on _ (a .1) ∙ failed 3 _ _ (lt-leb _ _ t))
+            told-refused (stepsAt bytes most p) _ _ (ap forget (after-count _ ∙ goes-on _ (a .1) ∙ failed 3 _ _ (lt-leb _ _ t))
             ∙ ap (refuse 3) (sym (a .2)))
 
-        pub steps-end : length bytes ≤ end → None ≡ fault (stepsAt bytes p)
+        pub steps-end : length bytes ≤ end → None ≡ fault (stepsAt bytes most p)
         unfolding stepsAt
         steps-end g =
             let a = all-steps in
             let t : length bytes ≤ p + 2 + 12 * k = (let z = a .2 in omega arith) in
-            told-fine (stepsAt bytes p) (ap forget (after-count _ ∙ goes-on _ (a .1) ∙ passed 3 _ _ (le-leb _ _ t)))
+            told-fine (stepsAt bytes most p) (ap forget (after-count _ ∙ goes-on _ (a .1) ∙ passed 3 _ _ (le-leb _ _ t)))

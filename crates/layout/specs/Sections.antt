@@ -1,7 +1,7 @@
 -- Sections of a file as the code reads them, and what follows the actions.
 -- Assumes nothing.
 use Prim.Native.Nat.{ℕ, _+_, _*_}
-use mathlib.Core.Bool.{true, false, _&&_}
+use mathlib.Core.Bool.{Bool, true, false, _&&_}
 use mathlib.Core.List.{List}
 use lib.ListN.{length}
 use lib.Dec.{leb, eqb}
@@ -11,6 +11,7 @@ use Rattle.entries.specs.declared.Section.{Section}
 use Rattle.meaning.specs.Result.{Result, refuse, found, _>>=_, need}
 use Rattle.bytes.specs.Numbers.{numberAt}
 use Rattle.meaning.specs.File.{Step}
+use Rattle.meaning.specs.declared.Limits.{Limits}
 use Rattle.meaning.specs.Layout.{items, field, count, step, entries}
 use Rattle.entries.specs.Forms.{setsOf}
 
@@ -18,6 +19,10 @@ use Rattle.entries.specs.Forms.{setsOf}
 abbrev pub rest : Result (ℕ × ℕ) → Rest
 rest (refuse r p) = Ended r p
 rest (found x) = Both (x .0) (x .1)
+
+-- a lawful length, which the file's first four bytes tell
+unfoldable pub isWhole : List ℕ → Bool
+isWhole bytes = (leb 4 (length bytes) && leb (length bytes) 65536) && eqb (numberAt 4 bytes 0 + 4) (length bytes)
 
 -- how the task starts: the version, and the number of facts
 unfoldable pub factsAt : List ℕ → Result ℕ
@@ -34,18 +39,25 @@ sectionAt bytes s high p = do
   c ← count bytes 0 high p
   entries bytes (setsOf bytes s .kinds) 0 (p + 2) c
 
--- the steps, and that nothing follows them
-unfoldable pub stepsAt : List ℕ → ℕ → Result (List Step)
-stepsAt bytes p = do
+-- the count of the steps, of which at most `most` are allowed
+unfoldable pub stepCountAt : List ℕ → ℕ → ℕ → Result ℕ
+stepCountAt bytes most p = do
   k ← count bytes 1 2048 p
+  _ ← need (leb k most) 19 p
+  found k
+
+-- the steps, and that nothing follows them
+unfoldable pub stepsAt : List ℕ → ℕ → ℕ → Result (List Step)
+stepsAt bytes most p = do
+  k ← stepCountAt bytes most p
   ks ← items (step bytes) 12 (p + 2) k
   _ ← need (leb (length bytes) (p + 2 + 12 * k)) 3 (p + 2 + 12 * k)
   found ks
 
 -- all of it, for n facts and m actions: the places after the action sets and after the state sets
-unfoldable pub restAt : List ℕ → ℕ → ℕ → Result (ℕ × ℕ)
-restAt bytes n m = do
-  es ← sectionAt bytes (record { states = false; facts = n; others = m }) 256 (24 + 24 * m)
-  ss ← sectionAt bytes (record { states = true; facts = n; others = numberAt 2 bytes (24 + 24 * m) }) 512 (es .1)
-  _ ← stepsAt bytes (ss .1)
+unfoldable pub restAt : List ℕ → Limits → ℕ → ℕ → Result (ℕ × ℕ)
+restAt bytes l n m = do
+  es ← sectionAt bytes (record { states = false; facts = n; others = m; most = l .states }) 256 (24 + 24 * m)
+  ss ← sectionAt bytes (record { states = true; facts = n; others = numberAt 2 bytes (24 + 24 * m); most = l .states }) 512 (es .1)
+  _ ← stepsAt bytes (l .steps) (ss .1)
   found (es .1, ss .1)

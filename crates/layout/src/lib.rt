@@ -1,4 +1,4 @@
-// How a file is read, front to back, with replies 1 to 7 at the written places and in the written order.
+// How a file is read, front to back, with replies 1 to 7 at the written places and in the written order, and 19 for a check's own limits.
 use crate::rows::Row;
 use crate::rows::Walked;
 use crate::rows::told;
@@ -10,16 +10,18 @@ use certificate::Outline;
 use certificate::Places;
 use entries::Section;
 use entries::inside;
+use meaning::Limits;
 use reader::task_head;
 use task::Ends;
 ghost use mathlib.Core.Path.{_≡_};
 ghost use Prim.Native.Nat.{_≤_};
 ghost use lib.ListN.{length};
+ghost use Rattle.meaning.specs.Limits.{full, small};
 ghost use Rattle.meaning.specs.Layout.{count, readTask};
 ghost use Rattle.certificate.specs.Views.{outlineOf};
 ghost use Rattle.bodies.specs.Faults.{fault};
 ghost use Rattle.layout.specs.Rows.{walked};
-ghost use Rattle.layout.specs.Sections.{factsAt, sectionAt, stepsAt, rest, restAt};
+ghost use Rattle.layout.specs.Sections.{isWhole, factsAt, sectionAt, stepCountAt, stepsAt, rest, restAt};
 
 mod rows;
 
@@ -27,6 +29,28 @@ mod rows;
 enum Rest {
     After { action_sets: u32, state_sets: u32 },
     Refused { number: u8, place: u32 },
+}
+
+// Document 01's limits.
+pub fn full_limits() -> Limits
+    ensures { λ r. ⌜ r ≡ full ⌝ }
+{
+    Limits {
+        size: 65536,
+        states: 4096,
+        steps: 2048,
+    }
+}
+
+// Those of document 02, l.
+pub fn small_limits() -> Limits
+    ensures { λ r. ⌜ r ≡ small ⌝ }
+{
+    Limits {
+        size: 16384,
+        states: 512,
+        steps: 256,
+    }
 }
 
 // A count from `low` to `high`.
@@ -62,12 +86,29 @@ fn counted(file: &[u8], s: Section, high: u16, place: u32) -> Walked
     }
 }
 
-// The steps, and that nothing follows them.
-fn steps(file: &[u8], place: u32) -> Fault
-    requires { ⌜ length (now file) ≤ 65536 ⌝ }
-    ensures { λ r. ⌜ r ≡ fault (stepsAt (now (file .entry)) place) ⌝ }
+// The count of the steps, of which at most `most` are allowed.
+fn step_count(file: &[u8], most: u16, place: u32) -> Fault
+    ensures { λ r. ⌜ r ≡ fault (stepCountAt (now (file .entry)) most place) ⌝ }
 {
     let v = count(file, 1, 2048, place);
+    match v {
+        Fault::At { number, place } => Fault::At { number, place },
+        Fault::None => {
+            if most < u16_at(file, place as usize) {
+                Fault::At { number: 19, place }
+            } else {
+                Fault::None
+            }
+        }
+    }
+}
+
+// The steps, and that nothing follows them.
+fn steps(file: &[u8], most: u16, place: u32) -> Fault
+    requires { ⌜ length (now file) ≤ 65536 ⌝ }
+    ensures { λ r. ⌜ r ≡ fault (stepsAt (now (file .entry)) most place) ⌝ }
+{
+    let v = step_count(file, most, place);
     if let Fault::At { number, place } = v {
         return Fault::At { number, place };
     }
@@ -143,9 +184,9 @@ fn task(file: &[u8]) -> Fault
 }
 
 // What follows the actions, of a file with so many facts and actions.
-fn after_task(file: &[u8], facts: u8, actions: u16) -> Rest
+fn after_task(file: &[u8], limits: Limits, facts: u8, actions: u16) -> Rest
     requires { ⌜ length (now file) ≤ 65536 ⌝ }
-    ensures { λ r. ⌜ r ≡ rest (restAt (now (file .entry)) facts actions) ⌝ }
+    ensures { λ r. ⌜ r ≡ rest (restAt (now (file .entry)) limits facts actions) ⌝ }
 {
     let place = 24 + 24 * (actions as u32);
     let first = counted(
@@ -154,6 +195,7 @@ fn after_task(file: &[u8], facts: u8, actions: u16) -> Rest
             states: false,
             facts,
             others: actions,
+            most: limits.states,
         },
         256,
         place,
@@ -168,6 +210,7 @@ fn after_task(file: &[u8], facts: u8, actions: u16) -> Rest
                     states: true,
                     facts,
                     others,
+                    most: limits.states,
                 },
                 512,
                 a,
@@ -175,7 +218,7 @@ fn after_task(file: &[u8], facts: u8, actions: u16) -> Rest
             match second {
                 Walked::Refused { number, place } => Rest::Refused { number, place },
                 Walked::After(s) => {
-                    let third = steps(file, s);
+                    let third = steps(file, limits.steps, s);
                     match third {
                         Fault::At { number, place } => Rest::Refused { number, place },
                         Fault::None => Rest::After {
@@ -189,19 +232,29 @@ fn after_task(file: &[u8], facts: u8, actions: u16) -> Rest
     }
 }
 
-// The layout check: the file's length, the task, and what follows it.
-pub fn read_layout(file: &[u8]) -> Outline
-    ensures { λ r. ⌜ r ≡ outlineOf (now (file .entry)) ⌝ }
+// Whether a file has a lawful length, and says so.
+fn is_whole(file: &[u8]) -> bool
+    ensures { λ r. ⌜ r ≡ isWhole (now (file .entry)) ⌝ }
 {
-    if !((4 <= file.len()) & (file.len() <= 65536)) {
+    let length = file.len();
+    (4 <= length) & (length <= 65536) & (u32_at(file, 0) as usize + 4 == length)
+}
+
+// The layout check with a check's limits: the file's length, the task, and what follows it.
+pub fn read_layout(file: &[u8], limits: Limits) -> Outline
+    ensures { λ r. ⌜ r ≡ outlineOf limits (now (file .entry)) ⌝ }
+{
+    let whole = is_whole(file);
+    let allowed = file.len() <= limits.size as usize;
+    if !whole {
         return Outline::Refused {
             number: 1,
             place: 0,
         };
     }
-    if u32_at(file, 0) as usize + 4 != file.len() {
+    if !allowed {
         return Outline::Refused {
-            number: 1,
+            number: 19,
             place: 0,
         };
     }
@@ -210,7 +263,7 @@ pub fn read_layout(file: &[u8]) -> Outline
         return Outline::Refused { number, place };
     }
     let head = task_head(file);
-    let rest = after_task(file, head.facts, head.actions);
+    let rest = after_task(file, limits, head.facts, head.actions);
     match rest {
         Rest::Refused { number, place } => Outline::Refused { number, place },
         Rest::After {

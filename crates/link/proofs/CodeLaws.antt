@@ -8,6 +8,7 @@ use mathlib.Core.List.{List}
 use Rattle.task.specs.Reach.{Safe}
 use Rattle.meaning.specs.Result.{found}
 use Rattle.meaning.specs.File.{File}
+use Rattle.meaning.specs.Limits.{small}
 use Rattle.meaning.specs.Layout.{readFile}
 use Rattle.meaning.specs.declared.Reply.{Reply}
 use Rattle.meaning.specs.declared.Reply.the-variants.{Accepted, Refused}
@@ -18,11 +19,13 @@ use Rattle.meaning.specs.Numbering.{replyNumbered}
 use Rattle.meaning.specs.declared.Round.{Round}
 use Rattle.meaning.specs.declared.Round.the-variants as round
 use Rattle.meaning.specs.Rounds.{roundOf}
+use Rattle.meaning.specs.Small.{replySmall}
 use Rattle.meaning.specs.Question.{answerOf}
 use Rattle.meaning.proofs.Rounds.{goes-further}
 use Rattle.meaning.proofs.Points.{an-accepted-file-is-safe, a-refused-file-has-a-number-to-12, a-refused-question-has-its-number}
 use Rattle.meaning.proofs.Points.{a-file-accepted-with-a-list-is-safe, a-refusal-with-a-list-has-its-number}
-use Rattle.meaning.proofs.Points.{a-refused-round-has-its-number}
+use Rattle.meaning.proofs.Points.{a-refused-round-has-its-number, a-file-that-the-small-check-accepts-is-safe}
+use Rattle.meaning.proofs.Points.{a-refusal-with-limits-has-its-number}
 use Rattle.link.specs.Code.{refusalCode, codeOf, roundCodeOf, answerCodeOf}
 
 refusal-above : (r p : ℕ) → 1 ≤ r → 4294967296 ≤ refusalCode r p
@@ -49,6 +52,14 @@ safe-by-list bytes numbers e z =
     a-file-accepted-with-a-list-is-safe bytes numbers
     (accepted (replyNumbered bytes numbers)
     (λ r p q. least (λ n. omega (arith, n)) (a-refusal-with-a-list-has-its-number bytes numbers r p q)) (sym e ∙ z))
+
+pub safe-by-limits : (bytes : List ℕ) {c : ℕ} → c ≡ codeOf (replySmall bytes) → c ≡ 0
+    → (f : File) × (readFile bytes ≡ found f) × Safe (f .task)
+unfolding replySmall
+safe-by-limits bytes e z =
+    a-file-that-the-small-check-accepts-is-safe bytes
+    (accepted (replySmall bytes) (λ r p q. least (λ n. omega (arith, n)) (a-refusal-with-limits-has-its-number small bytes r p q))
+    (sym e ∙ z))
 
 told-in : (x : Answer) → ((r p : ℕ) → x ≡ answer.Refused r p → 1 ≤ r) → answerCodeOf x ≡ 1 → x ≡ answer.In
 unfolding answerCodeOf

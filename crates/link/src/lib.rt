@@ -1,4 +1,4 @@
-// The checker, whole and in rounds, and the question for programs in C or Rust: each reply as one number.
+// The checker, whole, with smaller limits and in rounds, and the question for programs in C or Rust: each reply as one number.
 use meaning::Answer;
 use meaning::Reply;
 use meaning::Round;
@@ -6,6 +6,7 @@ use question::ask;
 use verifier::check;
 use verifier::check_numbered;
 use verifier::check_round;
+use verifier::check_small;
 ghost use mathlib.Core.Path.{_≡_};
 ghost use Prim.Native.Nat.{min, _<_};
 ghost use Rattle.task.specs.Reach.{Safe};
@@ -17,6 +18,7 @@ ghost use Rattle.meaning.specs.Reply.{replyOf};
 ghost use Rattle.meaning.specs.Numbering.{replyNumbered};
 ghost use Rattle.meaning.specs.declared.Round.the-variants.{Ended, GoOn};
 ghost use Rattle.meaning.specs.Rounds.{roundOf};
+ghost use Rattle.meaning.specs.Small.{replySmall};
 ghost use Rattle.meaning.specs.Question.{answerOf};
 ghost use Rattle.link.specs.Code.{refusalCode, codeOf, roundCodeOf, answerCodeOf};
 
@@ -67,6 +69,16 @@ pub extern "C" fn certificate_check_numbered(file: &[u8], numbers: &[u8]) -> u64
     ensures list_untouched { λ r. ⌜ now (numbers .exit) ≡ now (numbers .entry) ⌝ }
 {
     reply_code(check_numbered(file, numbers))
+}
+
+// The same with smaller limits: 19 where the file breaks one of them, and else what `certificate_check` says.
+#[no_mangle]
+pub extern "C" fn certificate_check_small(file: &[u8]) -> u64
+    ensures code { λ r. ⌜ r ≡ codeOf (replySmall (now (file .entry))) ⌝ }
+    ensures safe { λ r. ⌜ (r ≡ 0 → (f : File) × (readFile (now (file .entry)) ≡ found f) × Safe (f .task)) ⌝ }
+    ensures untouched { λ r. ⌜ now (file .exit) ≡ now (file .entry) ⌝ }
+{
+    reply_code(check_small(file))
 }
 
 // One round of a check, of `count` steps from step `from` on: 0 where the last step was reached and says "unsolvable", else the step to

@@ -5,7 +5,7 @@ use mathlib.Core.Option.{some}
 use Prim.Native.Nat.{ℕ, zero, suc, _+_, _-_, _*_, _/_, _%_, _≤_}
 use native.Mathlib.Nat.{div-add-mod}
 use native.Mathlib.Omega.{arith}
-use mathlib.Core.Bool.{Bool}
+use mathlib.Core.Bool.{Bool, true}
 use mathlib.Core.List.{List, [], _∷_, _++_}
 use lib.ListN.{length, getElem?}
 use lib.Dec.{T, eqb, leb, eqb→eq, leb→le}
@@ -65,7 +65,7 @@ module _ (bytes : List ℕ) (h : AreBytes bytes) where
     again-list : {j : ℕ} {B : Type 0} (write : B → List ℕ) (size most : ℕ) (read : ℕ → ℕ → Result (List B))
         → ((k : ℕ) → Again bytes (each write) (size * k) (λ p. read p k))
         → (make : List B → A) → ((xs : List B) → Is j (each write xs) (make xs))
-        → KindAgain j (record { fits = upTo size most; body = λ p len. read p (len / size) >>= λ xs. found (make xs) })
+        → KindAgain j (record { fits = upTo size most; allowed = λ _. true; body = λ p len. read p (len / size) >>= λ xs. found (make xs) })
     unfolding upTo
     again-list write size most read again make is p q len e x t x! =
         bind-case (read p (len / size)) _ x x! λ xs xs! s.
@@ -76,7 +76,8 @@ module _ (bytes : List ℕ) (h : AreBytes bytes) where
     -- ascending numbers of `size` bytes each
     again-ascending : {j : ℕ} (size most : ℕ) (read : ℕ → Result ℕ) → Again bytes (bytesOf size) size read
         → (make : List ℕ → A) → ((xs : List ℕ) → Is j (each (bytesOf size) xs) (make xs))
-        → KindAgain j (record { fits = upTo size most; body = λ p len. ascending read size 0 p (len / size) >>= λ xs. found (make xs) })
+        → KindAgain j
+        (record { fits = upTo size most; allowed = λ _. true; body = λ p len. ascending read size 0 p (len / size) >>= λ xs. found (make xs) })
     again-ascending size most read again = again-list (bytesOf size) size most (λ p k. ascending read size 0 p k)
         (λ k. ascending-again bytes (bytesOf size) size read again k 0)
 
@@ -113,7 +114,8 @@ module _ (bytes : List ℕ) (h : AreBytes bytes) where
         need-case (leb 1 len) 4 p _ x e₂ λ u e₃.
         let j : ℕ = number 1 bytes (p + 2) in
         bind-case (known (getElem? ks j) 4 (p + 2)) _ x e₃ λ k k! e₄.
-        need-case (k .fits (len - 1)) 4 p _ x e₄ λ v s.
+        need-case (k .fits (len - 1)) 4 p _ x e₄ λ v e₅.
+        need-case (k .allowed (len - 1)) 19 p _ x e₅ λ _ s.
         let n : number 2 bytes p ≡ len = field-out bytes 2 p len len! .1 in
         let q : ℕ = p + 2 + number 2 bytes p in
         let l : p + (2 + len) ≤ length bytes = leb→le (p + (2 + len)) (length bytes) t in
@@ -156,9 +158,9 @@ module _ (bytes : List ℕ) (h : AreBytes bytes) where
       again-list stateKind stateBody writeClause 16 256 (λ p k. items (clause bytes n rule) 16 p k)
       (items-again bytes writeClause 16 (clause bytes n rule) (clause-again bytes h n rule)) (λ cs. basic (make cs))
 
-  state-kinds-again : (n m i : ℕ) → AllAgain stateKind stateBody 0 (stateKinds bytes n m i)
+  state-kinds-again : (most n m i : ℕ) → AllAgain stateKind stateBody 0 (stateKinds bytes most n m i)
   unfolding stateKinds stateKind stateBody basicKind basicBody
-  state-kinds-again n m i =
+  state-kinds-again most n m i =
       again-plain stateKind stateBody (basic empty) (refl, refl)
       & again-plain stateKind stateBody (basic init) (refl, refl)
       & again-plain stateKind stateBody (basic goal) (refl, refl)
@@ -178,7 +180,8 @@ module _ (bytes : List ℕ) (h : AreBytes bytes) where
   unfolding writeActionSet
   action-sets-again m k p = entries-again actionKind actionBody (actionKinds bytes m) (action-kinds-again m) k 0 p
 
-  pub state-sets-again : (n m k p : ℕ) (r : List StateSet × ℕ) → entries bytes (stateKinds bytes n m) 0 p k ≡ found r
+  pub state-sets-again : (most n m k p : ℕ) (r : List StateSet × ℕ) → entries bytes (stateKinds bytes most n m) 0 p k ≡ found r
       → Spans bytes p (r .1) (each writeStateSet (r .0))
   unfolding writeStateSet
-  state-sets-again n m k p = entries-again stateKind stateBody (stateKinds bytes n m) (state-kinds-again n m) k 0 p
+  state-sets-again most n m k p =
+      entries-again stateKind stateBody (stateKinds bytes most n m) (state-kinds-again most n m) k 0 p

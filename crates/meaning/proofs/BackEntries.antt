@@ -17,10 +17,10 @@ use Rattle.meaning.specs.File.{complement, intersection, union, progress
 use Rattle.meaning.specs.Layout.{items, ascending, mask, reference, clause, Kind, upTo, plain, one, two, clauses, actionKinds}
 use Rattle.meaning.specs.Layout.{stateKinds, hornRule, twoCnfRule, entry, entries}
 use Rattle.meaning.specs.Writing.{each, writeClause, writeEntry, writeActionSet, writeStateSet, actionBody, basicBody, stateBody}
-use Rattle.meaning.specs.Writing.{AllFrom, All, Ascending, FitsActionSet, FitsClauses, FitsBasic, FitsStateSet}
+use Rattle.meaning.specs.Writing.{AllFrom, All, Ascending, FitsActionSet, FitsClauses, FitsBasic, listedStates}
 use Rattle.meaning.proofs.Results.{bind-in, need-in, known-in, and-in}
 use Rattle.meaning.proofs.Numbers.{length-bytesOf}
-use Rattle.meaning.proofs.Given.{FitsClause}
+use Rattle.meaning.proofs.Given.{FitsClause, FitsWithin}
 use Rattle.meaning.proofs.Suffix.{At, at-next, inside-here, number-back, after-number, byte-back, after-byte}
 use Rattle.meaning.proofs.Back.{Back, field-back, mask-back, reference-back, clause-back, length-each, items-back, ascending-back}
 
@@ -36,6 +36,7 @@ record Holds {A : Type 0} (bytes : List ℕ) (kinds : List (Kind A)) (j : ℕ) (
   here : getElem? kinds j ≡ some kind
   short : suc (length body) < 65536
   fits : T (kind .fits (length body))
+  allowed : T (kind .allowed (length body))
   reads : (p : ℕ) (rest : List ℕ) → At bytes p (body ++ rest) → kind .body p (length body) ≡ found x
 
 module _ {A : Type 0} (bytes : List ℕ) (kinds : List (Kind A)) (j : ℕ) (body : List ℕ) (x : A) (h : Holds bytes kinds j body x) (p : ℕ)
@@ -61,7 +62,8 @@ module _ {A : Type 0} (bytes : List ℕ) (kinds : List (Kind A)) (j : ℕ) (body
       (bind-in _ (need-in _ 4 p (le→leb 1 len (omega arith)))
       (bind-in _ (known-in 4 (p + 2) (ap (getElem? kinds) (byte-back bytes (p + 2) j _ w₂) ∙ h .here))
       (bind-in _ (need-in _ 4 p (subst (λ (l : ℕ). T (h .kind .fits l)) (sym m) (h .fits)))
-      (ap (h .kind .body (p + 3)) m ∙ h .reads (p + 3) rest w₃)))))
+      (bind-in _ (need-in _ 19 p (subst (λ (l : ℕ). T (h .kind .allowed l)) (sym m) (h .allowed)))
+      (ap (h .kind .body (p + 3)) m ∙ h .reads (p + 3) rest w₃))))))
 
 -- ---- entries one after the other
 
@@ -90,10 +92,19 @@ module _ {A : Type 0} (bytes : List ℕ) (P : ℕ → A → Type 0) (kindOf : A 
 
 -- ---- each kind
 
+-- k items of `size` bytes each are at most `most`
+up-to : (size most k len : ℕ) → 0 < size → len ≡ size * k → k ≤ most → T (upTo size most len)
+unfolding upTo
+up-to size most k len some-size n few =
+    let d : len / size ≡ k = ap (λ (x : ℕ). x / size) n ∙ mul-div-cancel-left k some-size in
+    let m : len % size ≡ 0 = ap (λ (x : ℕ). x % size) n ∙ mul-mod-right size k in
+    and-in (eqb (len % size) 0) (leb (len / size) most) (subst (λ (x : ℕ). T (eqb x 0)) (sym m) tt)
+    (le→leb (len / size) most (subst (λ (x : ℕ). x ≤ most) (sym d) few))
+
 module _ {A : Type 0} (bytes : List ℕ) {kinds : List (Kind A)} {j : ℕ} where
   plain-holds : {x : A} → getElem? kinds j ≡ some (plain x) → Holds bytes kinds j [] x
   unfolding plain
-  plain-holds {x} e = record { kind = plain x; here = e; short = omega arith; fits = tt; reads = λ p rest w. refl }
+  plain-holds {x} e = record { kind = plain x; here = e; short = omega arith; fits = tt; allowed = tt; reads = λ p rest w. refl }
 
   one-holds : (make : ℕ → A) (bound a : ℕ) → bound ≤ 65536 → a < bound → getElem? kinds j ≡ some (one bytes make bound)
       → Holds bytes kinds j (bytesOf 2 a) (make a)
@@ -105,6 +116,7 @@ module _ {A : Type 0} (bytes : List ℕ) {kinds : List (Kind A)} {j : ℕ} where
         here = e;
         short = omega arith;
         fits = subst (λ (l : ℕ). T (eqb l 2)) (sym n) tt;
+        allowed = tt;
         reads = λ p rest w. bind-in _ (reference-back bytes bound b a h p rest w) refl;
       }
 
@@ -118,6 +130,7 @@ module _ {A : Type 0} (bytes : List ℕ) {kinds : List (Kind A)} {j : ℕ} where
         here = e;
         short = omega arith;
         fits = subst (λ (l : ℕ). T (eqb l 4)) (sym n) tt;
+        allowed = tt;
         reads = λ p rest w.
             let w₀ : At bytes p (bytesOf 2 a ++ (bytesOf 2 c ++ rest)) = simp append-assoc at w in
             bind-in _ (reference-back bytes bound b a (h .0) p _ w₀)
@@ -125,37 +138,39 @@ module _ {A : Type 0} (bytes : List ℕ) {kinds : List (Kind A)} {j : ℕ} where
       }
 
   -- a body that is a number of items of one size
-  list-holds : {B : Type 0} (write : B → List ℕ) (size most : ℕ) → 0 < size → suc (size * most) < 65536
+  list-holds : {B : Type 0} (write : B → List ℕ) (size most : ℕ) (allow : ℕ → Bool) → 0 < size → suc (size * most) < 65536
       → (read : ℕ → ℕ → Result (List B)) (make : List B → A)
-      → getElem? kinds j ≡ some (record { fits = upTo size most; body = λ p len. read p (len / size) >>= λ xs. found (make xs) })
-      → (xs : List B) → length xs ≤ most → length (each write xs) ≡ size * length xs
+      → getElem? kinds j
+      ≡ some (record { fits = upTo size most; allowed = allow; body = λ p len. read p (len / size) >>= λ xs. found (make xs) })
+      → (xs : List B) → length xs ≤ most → T (allow (length (each write xs))) → length (each write xs) ≡ size * length xs
       → ((p : ℕ) (rest : List ℕ) → At bytes p (each write xs ++ rest) → read p (length xs) ≡ found xs)
       → Holds bytes kinds j (each write xs) (make xs)
-  unfolding upTo
-  list-holds write size most some-size small read make e xs few n back =
+  list-holds write size most allow some-size small read make e xs few t n back =
       let len : ℕ = length (each write xs) in
       let d : len / size ≡ length xs = ap (λ (k : ℕ). k / size) n ∙ mul-div-cancel-left (length xs) some-size in
-      let m : len % size ≡ 0 = ap (λ (k : ℕ). k % size) n ∙ mul-mod-right size (length xs) in
       let l : size * length xs ≤ size * most = mul-le-mul-left size few in
       record {
-        kind = record { fits = upTo size most; body = λ p len. read p (len / size) >>= λ ys. found (make ys) };
+        kind = record { fits = upTo size most; allowed = allow; body = λ p len. read p (len / size) >>= λ ys. found (make ys) };
         here = e;
         short = omega arith;
-        fits = and-in (eqb (len % size) 0) (leb (len / size) most)
-            (subst (λ (k : ℕ). T (eqb k 0)) (sym m) tt) (le→leb (len / size) most (subst (λ (k : ℕ). k ≤ most) (sym d) few));
+        fits = up-to size most (length xs) len some-size n few;
+        allowed = t;
         reads = λ p rest w. bind-in _ (ap (read p) d ∙ back p rest w) refl;
       }
 
   -- ascending numbers of `size` bytes each, below a bound
-  ascending-holds : (size most bound : ℕ) → 0 < size → suc (size * most) < 65536 → (read : ℕ → Result ℕ)
+  ascending-holds : (size most bound : ℕ) (allow : ℕ → Bool) → 0 < size → suc (size * most) < 65536 → (read : ℕ → Result ℕ)
       → Back bytes (λ a. a < bound) (bytesOf size) read
       → (make : List ℕ → A) → getElem? kinds j ≡ some
-      (record { fits = upTo size most; body = λ p len. ascending read size 0 p (len / size) >>= λ xs. found (make xs) })
+      (record { fits = upTo size most; allowed = allow; body = λ p len. ascending read size 0 p (len / size) >>= λ xs. found (make xs) })
       → (xs : List ℕ) → (length xs ≤ most) × Ascending 0 xs × All (λ a. a < bound) xs
+      → ((len : ℕ) → len ≡ size * length xs → T (allow len))
       → Holds bytes kinds j (each (bytesOf size) xs) (make xs)
-  ascending-holds size most bound some-size small read back make e xs h =
-      list-holds (bytesOf size) size most some-size small (λ p k. ascending read size 0 p k) make e xs (h .0)
-      (length-each (λ a. a < bound) (bytesOf size) size (λ a _. length-bytesOf size a) xs 0 (h .2))
+  ascending-holds size most bound allow some-size small read back make e xs h t =
+      let n : length (each (bytesOf size) xs) ≡ size * length xs =
+      length-each (λ a. a < bound) (bytesOf size) size (λ a _. length-bytesOf size a) xs 0 (h .2) in
+      list-holds (bytesOf size) size most allow some-size small (λ p k. ascending read size 0 p k) make e xs (h .0)
+      (t (length (each (bytesOf size) xs)) n) n
       (ascending-back (λ a. a < bound) (bytesOf size) size (λ a _. length-bytesOf size a) bytes read back xs 0 0 (h .2) (h .1))
 
 length-clause : (c : Clause) → length (writeClause c) ≡ 16
@@ -168,8 +183,8 @@ clauses-hold : (bytes : List ℕ) {kinds : List (Kind StateSet)} {j : ℕ} (n : 
     → Holds bytes kinds j (each writeClause cs) (basic (make cs))
 unfolding clauses
 clauses-hold bytes n b rule make e cs h =
-    list-holds bytes writeClause 16 256 (omega arith) (omega arith) (λ p k. items (clause bytes n rule) 16 p k)
-    (λ ds. basic (make ds)) e cs (h .0)
+    list-holds bytes writeClause 16 256 _ (omega arith) (omega arith) (λ p k. items (clause bytes n rule) 16 p k)
+    (λ ds. basic (make ds)) e cs (h .0) tt
     (length-each (FitsClause n rule) writeClause 16 (λ c _. length-clause c) cs 0 (h .1))
     (items-back (FitsClause n rule) writeClause 16 (λ c _. length-clause c) bytes (clause bytes n rule) (clause-back bytes n rule b) cs 0
     (h .1))
@@ -182,30 +197,30 @@ module _ (bytes : List ℕ) where
   unfolding actionKinds actionKind actionBody
   action-holds m b i all l h = plain-holds bytes refl
   action-holds m b i (listed is) l h =
-      ascending-holds bytes 2 256 m (omega arith) (omega arith) (reference bytes m) (reference-back bytes m b) listed refl is h
+      ascending-holds bytes 2 256 m _ (omega arith) (omega arith) (reference bytes m) (reference-back bytes m b) listed refl is h (λ _ _. tt)
   action-holds m b i (either a c) l h = two-holds bytes either i i a c (omega arith) (omega arith) h refl
 
-  basic-holds : (n m i : ℕ) → n ≤ 64 → (x : Basic) → FitsBasic n x
-      → Holds bytes (stateKinds bytes n m i) (basicKind x) (basicBody x) (basic x)
-  unfolding stateKinds basicKind basicBody
-  basic-holds n m i b empty h = plain-holds bytes refl
-  basic-holds n m i b init h = plain-holds bytes refl
-  basic-holds n m i b goal h = plain-holds bytes refl
-  basic-holds n m i b (explicit ss) h =
-      ascending-holds bytes 8 4096 (2 ^ n) (omega arith) (omega arith) (mask bytes n) (mask-back bytes n b)
-      (λ xs. basic (explicit xs)) refl ss h
-  basic-holds n m i b (horn cs) h = clauses-hold bytes n b hornRule horn refl cs h
-  basic-holds n m i b (twoCnf cs) h = clauses-hold bytes n b twoCnfRule twoCnf refl cs h
+  basic-holds : (most n m i : ℕ) → n ≤ 64 → (x : Basic) → FitsBasic n x → listedStates (basic x) ≤ most
+      → Holds bytes (stateKinds bytes most n m i) (basicKind x) (basicBody x) (basic x)
+  unfolding stateKinds basicKind basicBody listedStates
+  basic-holds most n m i b empty h a = plain-holds bytes refl
+  basic-holds most n m i b init h a = plain-holds bytes refl
+  basic-holds most n m i b goal h a = plain-holds bytes refl
+  basic-holds most n m i b (explicit ss) h a =
+      ascending-holds bytes 8 4096 (2 ^ n) _ (omega arith) (omega arith) (mask bytes n) (mask-back bytes n b)
+      (λ xs. basic (explicit xs)) refl ss h (λ len e. up-to 8 most (length ss) len (omega arith) e a)
+  basic-holds most n m i b (horn cs) h a = clauses-hold bytes n b hornRule horn refl cs h
+  basic-holds most n m i b (twoCnf cs) h a = clauses-hold bytes n b twoCnfRule twoCnf refl cs h
 
-  state-holds : (n m : ℕ) → n ≤ 64 → m ≤ 65536 → (i : ℕ) (x : StateSet) → i < 65536 → FitsStateSet n m i x
-      → Holds bytes (stateKinds bytes n m i) (stateKind x) (stateBody x) x
+  state-holds : (most n m : ℕ) → n ≤ 64 → m ≤ 65536 → (i : ℕ) (x : StateSet) → i < 65536 → FitsWithin most n m i x
+      → Holds bytes (stateKinds bytes most n m i) (stateKind x) (stateBody x) x
   unfolding stateKinds stateKind stateBody
-  state-holds n m b b′ i (basic x) l h = basic-holds n m i b x h
-  state-holds n m b b′ i (complement a) l h = one-holds bytes complement i a (omega arith) h refl
-  state-holds n m b b′ i (intersection a c) l h = two-holds bytes intersection i i a c (omega arith) (omega arith) h refl
-  state-holds n m b b′ i (union a c) l h = two-holds bytes union i i a c (omega arith) (omega arith) h refl
-  state-holds n m b b′ i (progression a e) l h = two-holds bytes progression i m a e (omega arith) b′ h refl
-  state-holds n m b b′ i (regression a e) l h = two-holds bytes regression i m a e (omega arith) b′ h refl
+  state-holds most n m b b′ i (basic x) l h = basic-holds most n m i b x (h .0) (h .1)
+  state-holds most n m b b′ i (complement a) l h = one-holds bytes complement i a (omega arith) (h .0) refl
+  state-holds most n m b b′ i (intersection a c) l h = two-holds bytes intersection i i a c (omega arith) (omega arith) (h .0) refl
+  state-holds most n m b b′ i (union a c) l h = two-holds bytes union i i a c (omega arith) (omega arith) (h .0) refl
+  state-holds most n m b b′ i (progression a e) l h = two-holds bytes progression i m a e (omega arith) b′ (h .0) refl
+  state-holds most n m b b′ i (regression a e) l h = two-holds bytes regression i m a e (omega arith) b′ (h .0) refl
 
   pub action-sets-back : (m : ℕ) → m ≤ 256 → (es : List ActionSet) → length es ≤ 256 → AllFrom (FitsActionSet m) 0 es
       → (p : ℕ) (rest : List ℕ) → At bytes p (each writeActionSet es ++ rest)
@@ -215,10 +230,10 @@ module _ (bytes : List ℕ) where
       entries-back bytes (FitsActionSet m) actionKind actionBody (actionKinds bytes m) 65536 (action-holds m (omega arith)) es 0
       (omega arith) h p rest w
 
-  pub state-sets-back : (n m : ℕ) → n ≤ 64 → m ≤ 256 → (ss : List StateSet) → length ss ≤ 512 → AllFrom (FitsStateSet n m) 0 ss
+  pub state-sets-back : (most n m : ℕ) → n ≤ 64 → m ≤ 256 → (ss : List StateSet) → length ss ≤ 512 → AllFrom (FitsWithin most n m) 0 ss
       → (p : ℕ) (rest : List ℕ) → At bytes p (each writeStateSet ss ++ rest)
-      → entries bytes (stateKinds bytes n m) 0 p (length ss) ≡ found (ss, p + length (each writeStateSet ss))
+      → entries bytes (stateKinds bytes most n m) 0 p (length ss) ≡ found (ss, p + length (each writeStateSet ss))
   unfolding writeStateSet
-  state-sets-back n m b b′ ss few h p rest w =
-      entries-back bytes (FitsStateSet n m) stateKind stateBody (stateKinds bytes n m) 65536 (state-holds n m b (omega arith)) ss 0
+  state-sets-back most n m b b′ ss few h p rest w =
+      entries-back bytes (FitsWithin most n m) stateKind stateBody (stateKinds bytes most n m) 65536 (state-holds most n m b (omega arith)) ss 0
       (omega arith) h p rest w

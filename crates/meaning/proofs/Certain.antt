@@ -1,4 +1,4 @@
--- A safe task with at most 4,096 states within reach has a certificate: the sample's, with those states listed.
+-- A safe task with no more states within reach than a check's limits allow has a certificate: the sample's, with those states listed.
 -- Assumes nothing.
 use mathlib.Core.Path.{_≡_, refl, sym, ap, _∙_, subst}
 use mathlib.Core.Logic.{_↔_}
@@ -17,9 +17,11 @@ use Rattle.task.proofs.Closure.{reachable-list}
 use Rattle.meaning.specs.Result.{found, need}
 use Rattle.meaning.specs.Bytes.{bytesOf}
 use Rattle.meaning.specs.File.{File, stepAt}
-use Rattle.meaning.specs.Layout.{readFile}
+use Rattle.meaning.specs.declared.Limits.{Limits}
+use Rattle.meaning.specs.Limits.{full, small}
+use Rattle.meaning.specs.Layout.{readWithin, readFile}
 use Rattle.meaning.specs.Writing.{AllFrom, Ascending, FitsCertificate, FitsStep, each, writeEntry, actionBody, basicBody, stateBody}
-use Rattle.meaning.specs.Writing.{writeActionSet, writeStateSet, writeStep, counted, fileOf, writeCertificate, Lawful}
+use Rattle.meaning.specs.Writing.{writeActionSet, writeStateSet, writeStep, counted, fileOf, writeCertificate, listedStates, Allowed, Lawful}
 use Rattle.meaning.proofs.Results.{bind-in, need-in, found-same}
 use Rattle.meaning.proofs.Reading.{file-read, task-fits, task-end}
 use Rattle.meaning.proofs.Prefix.{lawful-reads}
@@ -35,9 +37,12 @@ use Rattle.meaning.specs.Step.{checkStep}
 use Rattle.meaning.specs.declared.Reply.the-variants.{Accepted}
 use Rattle.meaning.specs.Reply.{checkSteps, checkFrom, checkFile, replyTo, replyOf}
 use Rattle.meaning.specs.Certain.{stepOf, theActionSets, theStateSets, theSteps, certificateOf}
-use Rattle.meaning.specs.Points.{CertainCertificate, SafeIsAccepted}
+use Rattle.meaning.specs.Small.{replyWithin, replySmall}
+use Rattle.meaning.specs.Points.{Certifies, SafeIsAccepted, CertifiesByList, CertainCertificate, CertainLength}
+use Rattle.meaning.specs.Points.{SmallSafeIsAccepted, SmallCertainCertificate}
 use Rattle.meaning.proofs.Computed.{computed}
 use Rattle.meaning.proofs.Judgements.{accepted-is-safe}
+use Rattle.meaning.proofs.Limited.{accepted-full}
 
 abbrev theFile : Task → List ℕ → File
 theFile t ss = record { task = t; actionSets = theActionSets; stateSets = theStateSets ss; steps = theSteps }
@@ -167,8 +172,33 @@ steps-fit = (
   ),
 )
 
-module _ (table : List ℕ) (t : Task) (lawful : Lawful table t) (ss : List ℕ) (few : length ss ≤ 4096) (up : Ascending 0 ss)
-    (lists : (s : ℕ) → T (member s ss) ↔ Reachable t s) where
+-- limits that have room for eight steps, and for so many states beside the largest table
+record Roomy (l : Limits) : Type 0 where
+  states : l .states ≤ full .states
+  steps : 8 ≤ l .steps
+  least : 20 + 24 * 256 + 8 * l .states + 142 ≤ l .size
+  most : l .size ≤ full .size
+
+full-roomy : Roomy full
+full-roomy = record { states = omega arith; steps = omega arith; least = omega arith; most = omega arith }
+
+small-roomy : Roomy small
+small-roomy = record { states = omega arith; steps = omega arith; least = omega arith; most = omega arith }
+
+-- 142 bytes beside the table and the states
+certificate-length : (table ss : List ℕ) → length (fileOf table (certificateOf ss)) ≡ length table + 8 * length ss + 142
+unfolding certificateOf writeCertificate counted each writeActionSet writeStateSet writeEntry actionBody stateBody basicBody writeStep
+certificate-length table ss =
+    let a = length-file table (certificateOf ss) in
+    let b : length (certificateOf ss) ≡ 138 + length (each (bytesOf 8) ss) = simp (length-append, length-bytesOf) (omega arith) in
+    let c = length-each (λ _. Unit {0}) (bytesOf 8) 8 (λ x _. length-bytesOf 8 x) ss 0 (anything ss 0) in
+    omega arith
+
+pub certain-length : CertainLength
+certain-length = (certificate-length, refl, refl, omega arith)
+
+module _ (l : Limits) (room : Roomy l) (table : List ℕ) (t : Task) (lawful : Lawful table t) (ss : List ℕ) (few : length ss ≤ l .states)
+    (up : Ascending 0 ss) (lists : (s : ℕ) → T (member s ss) ↔ Reachable t s) where
   bound : Bounded t
   bound = fits-bounded t (task-fits (fileOf table []) t (4 + length table) lawful)
 
@@ -184,7 +214,7 @@ module _ (table : List ℕ) (t : Task) (lawful : Lawful table t) (ss : List ℕ)
         (
           tt,
           (
-            (few, up, all-below (2 ^ t .facts) ss 0 (λ s k. reach-lt bound (lists s .0 k))),
+            (omega (arith, few, room .states), up, all-below (2 ^ t .facts) ss 0 (λ s k. reach-lt bound (lists s .0 k))),
             ((omega arith, omega arith), ((omega arith, omega arith), ((omega arith, omega arith), tt))),
           ),
         ),
@@ -195,51 +225,67 @@ module _ (table : List ℕ) (t : Task) (lawful : Lawful table t) (ss : List ℕ)
     steps = steps-fit;
   }
 
-  -- at most 6,168 bytes of table, 32,768 of states and 137 of the rest
-  length-states : length (each (bytesOf 8) ss) ≡ 8 * length ss
-  length-states = length-each (λ _. Unit {0}) (bytesOf 8) 8 (λ x _. length-bytesOf 8 x) ss 0 (anything ss 0)
+  allowed : Allowed l (theStateSets ss) theSteps
+  unfolding listedStates
+  allowed =
+      let none : 0 ≤ l .states = omega arith in
+      record { states = (none, (none, (none, (few, (none, (none, (none, tt))))))); steps = room .steps }
 
-  length-certificate : length (certificateOf ss) ≡ 138 + length (each (bytesOf 8) ss)
-  unfolding certificateOf writeCertificate counted each writeActionSet writeStateSet writeEntry actionBody stateBody basicBody writeStep
-  length-certificate = simp (length-append, length-bytesOf) (omega arith)
-
-  short : length (fileOf table (certificateOf ss)) ≤ 65536
+  short : length (fileOf table (certificateOf ss)) ≤ l .size
   short =
-      let a = length-file table (certificateOf ss) in
-      let b = length-certificate in
+      let a = certificate-length table ss in
       let c = task-end (fileOf table []) t (4 + length table) lawful in
       let d = task-fits (fileOf table []) t (4 + length table) lawful .few-actions in
-      let e = length-states in
+      let e = room .least in
       omega arith
 
-  reads : readFile (fileOf table (certificateOf ss)) ≡ found (theFile t ss)
+  reads : readWithin l (fileOf table (certificateOf ss)) ≡ found (theFile t ss)
   unfolding certificateOf
-  reads = certificate-reads table t theActionSets (theStateSets ss) theSteps lawful fits short
+  reads =
+      let m = room .most in
+      let n = short in
+      certificate-reads l table t theActionSets (theStateSets ss) theSteps lawful fits allowed (omega arith) n
 
-  pub accepted : Unsolvable t → replyOf (fileOf table (certificateOf ss)) ≡ Accepted
-  unfolding replyOf replyTo
+  accepted : Unsolvable t → replyWithin l (fileOf table (certificateOf ss)) ≡ Accepted
+  unfolding replyWithin replyTo
   accepted safe = ap replyTo (bind-in checkFile reads (steps-pass t ss lists safe))
 
 -- ---- the theorems
 
-pub certain-certificate : CertainCertificate
+by-list : (l : Limits) → Roomy l → CertifiesByList (replyWithin l) (l .states)
 unfolding certificateOf
-certain-certificate table t ss lawful safe up few lists =
-    (certificate-bytes theActionSets (theStateSets ss) theSteps 0 steps-fit, accepted table t lawful ss few up lists safe)
+by-list l room table t ss lawful safe up few lists =
+    (certificate-bytes theActionSets (theStateSets ss) theSteps 0 steps-fit, accepted l room table t lawful ss few up lists safe)
 
 ascending : (low : ℕ) (ss : List ℕ) → Ascends low ss → Ascending low ss
 ascending low [] h = tt
 ascending low (x ∷ ss) h = (h .0, ascending (suc x) ss (h .1))
 
-pub safe-is-accepted : SafeIsAccepted
-safe-is-accepted table t lawful h = (
+certifies : (l : Limits) → Roomy l → Certifies (replyWithin l) (l .states)
+certifies l room table t lawful h = (
   (λ (c, _, e).
-      let a = accepted-is-safe (fileOf table c) e in
+      let a = accepted-is-safe (fileOf table c) (accepted-full l (fileOf table c) e) in
       let w = file-read (fileOf table c) (a .0) (a .1) in
       let q : a .0 .task ≡ t = ap (λ (x : Task × ℕ). x .0) (found-same (sym (w .table) ∙ lawful-reads table c t lawful)) in
       subst Unsolvable q (safe-unsolvable (a .0 .task) (a .2))),
   (λ safe.
       let (ss, few, up, lists) = reachable-list t _ h in
-      let c = certain-certificate table t ss lawful safe (ascending 0 ss up) few lists in
+      let c = by-list l room table t ss lawful safe (ascending 0 ss up) few lists in
       (certificateOf ss, c .0, c .1)),
 )
+
+pub certain-certificate : CertainCertificate
+unfolding replyWithin replyOf readFile
+certain-certificate = by-list full full-roomy
+
+pub safe-is-accepted : SafeIsAccepted
+unfolding replyWithin replyOf readFile
+safe-is-accepted = certifies full full-roomy
+
+pub small-certain-certificate : SmallCertainCertificate
+unfolding replySmall
+small-certain-certificate = by-list small small-roomy
+
+pub small-safe-is-accepted : SmallSafeIsAccepted
+unfolding replySmall
+small-safe-is-accepted = certifies small small-roomy

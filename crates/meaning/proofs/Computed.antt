@@ -8,7 +8,8 @@ use Rattle.meaning.specs.Bytes.{bigEndian, number, inside}
 use Rattle.meaning.specs.File.{actionSetAt, stateSetAt, stepAt, actionKind, basicKind, stateKind, first, second, firstAction}
 use Rattle.meaning.specs.File.{secondAction}
 use Rattle.meaning.specs.Layout.{onesIn, hornRule, twoCnfRule, items, ascending, field, count, mask, reference, action, clause, step}
-use Rattle.meaning.specs.Layout.{upTo, plain, one, two, clauses, actionKinds, stateKinds, entry, entries, readTask, readFile}
+use Rattle.meaning.specs.Layout.{upTo, plain, one, two, clauses, actionKinds, stateKinds, entry, entries, readTask, readWithin}
+use Rattle.meaning.specs.Layout.{readFile}
 use Rattle.meaning.specs.Sets.{allBelow, someBelow, rounds, settled, actionNode, inActions, meets, inBasic, someAction, progressed}
 use Rattle.meaning.specs.Sets.{regressed, stateNode, inSet, statesWithin, actionsWithin}
 use Rattle.meaning.specs.Shapes.{keep, theOnly, kindAt, child, leafNode, leaves, isBasic, isComplement, isLiteral, literalKind}
@@ -23,18 +24,21 @@ use Rattle.meaning.specs.Reply.{checkSteps, checkFrom, checkFile, replyT
 use Rattle.meaning.specs.Numbering.{checkUnused, checkNumbers, ruleNumbers, ruleFrom, ruleMeant, rewritten, checkRewritten}
 use Rattle.meaning.specs.Numbering.{replyNumbered}
 use Rattle.meaning.specs.Rounds.{lawfulCount, handBack, checkRound, roundTo, roundOf}
+use Rattle.meaning.specs.Small.{replyWithin, above, afterEntries, actionSetCount, stateSetCount, stepCount, statesAt, longLists}
+use Rattle.meaning.specs.Small.{breaches}
 use Rattle.meaning.specs.Cases.{word, withLength, tableBytes, setBytes, stepBytes, firstSteps, allSteps, explicit012, fileBytes}
 use Rattle.meaning.specs.Cases.{sample, cases}
 
 unfoldable pub computed : Unit {0}
 unfolding allOn without actionAt isInit isGoal applies after member every _>>=_ need known bigEndian number inside actionSetAt
     stateSetAt stepAt actionKind basicKind stateKind first second firstAction secondAction onesIn hornRule twoCnfRule items ascending
-    field count mask reference action clause step upTo plain one two clauses actionKinds stateKinds entry entries readTask readFile
+    field count mask reference action clause step upTo plain one two clauses actionKinds stateKinds entry entries readTask readWithin readFile
     allBelow someBelow rounds settled actionNode inActions meets inBasic someAction progressed regressed stateNode inSet statesWithin
     actionsWithin keep theOnly kindAt child leafNode leaves isBasic isComplement isLiteral literalKind complements others movedLeft
     movedRight bracket used ofLiterals ofClauses ofStates permitted shape₁ shapeWith shape₂ shape₃ mixed shape₄ statements rules
     patternKind noLetters _then_ given withLetter standsFor ofKind ofActionKind matchᴬ match matchEntries matchStep matchPremises
     judgementKind premiseCount allRules ruleAt entriesFit wellFormed checkBy checkStep checkSteps checkFrom checkFile replyTo replyOf
     checkUnused checkNumbers ruleNumbers ruleFrom ruleMeant rewritten checkRewritten replyNumbered lawfulCount
-    handBack checkRound roundTo roundOf word withLength tableBytes setBytes stepBytes firstSteps allSteps explicit012 fileBytes sample cases
+    handBack checkRound roundTo roundOf replyWithin above afterEntries actionSetCount stateSetCount stepCount statesAt longLists breaches
+    word withLength tableBytes setBytes stepBytes firstSteps allSteps explicit012 fileBytes sample cases
 computed = tt

@@ -4,7 +4,7 @@ use mathlib.Core.Path.{_≡_, refl, sym, ap, subst}
 use mathlib.Core.Option.{some}
 use Prim.Native.Nat.{ℕ, zero, suc, _+_, _-_, _/_, _%_, _^_, _<_, _≤_}
 use native.Mathlib.Omega.{arith}
-use mathlib.Core.Bool.{Bool, _&&_}
+use mathlib.Core.Bool.{Bool, true, _&&_}
 use mathlib.Core.List.{List, [], _∷_}
 use lib.ListN.{length, getElem?}
 use lib.Dec.{T, eqb, ltb, leb, ltb→lt, leb→le}
@@ -15,7 +15,7 @@ use Rattle.meaning.specs.File.{ActionSet, all, listed, either, Basic, em
 use Rattle.meaning.specs.File.{complement, intersection, union, progression, regression}
 use Rattle.meaning.specs.Layout.{items, ascending, field, count, mask, reference, action, clause, Kind, plain, upTo, one, two}
 use Rattle.meaning.specs.Layout.{clauses, actionKinds, stateKinds, hornRule, twoCnfRule, entry, entries}
-use Rattle.meaning.specs.Writing.{AllFrom, All, Ascending, FitsAction, FitsActionSet, FitsClauses, FitsStateSet}
+use Rattle.meaning.specs.Writing.{AllFrom, All, Ascending, FitsAction, FitsActionSet, FitsClauses, FitsStateSet, listedStates}
 use Rattle.meaning.proofs.Results.{found-same, bind-case, need-case, known-out, and-out}
 
 -- whatever the reader gives has the property
@@ -98,7 +98,7 @@ ascending-give P read size h (suc k) i low p xs e =
 
 -- whatever a body of a fitting length gives has the property
 abbrev KindGives : {A : Type 0} → (A → Type 0) → Kind A → Type 0
-KindGives {A} P k = (p len : ℕ) (x : A) → T (k .fits len) → k .body p len ≡ found x → P x
+KindGives {A} P k = (p len : ℕ) (x : A) → T (k .fits len) → T (k .allowed len) → k .body p len ≡ found x → P x
 
 infixr 5 _&_
 data AllGive {A : Type 0} (P : A → Type 0) : List (Kind A) → Type 0 where
@@ -112,19 +112,19 @@ give-at P (k′ ∷ ks) (g & gs) (suc j) k e = give-at P ks gs j k e
 
 give-plain : {A : Type 0} (P : A → Type 0) (a : A) → P a → KindGives P (plain a)
 unfolding plain
-give-plain P a h p len x t e = subst P (found-same e) h
+give-plain P a h p len x t _ e = subst P (found-same e) h
 
 give-one : {A : Type 0} (bytes : List ℕ) (P : A → Type 0) (make : ℕ → A) (m : ℕ) → ((a : ℕ) → a < m → P (make a))
     → KindGives P (one bytes make m)
 unfolding one
-give-one bytes P make m h p len x t e =
+give-one bytes P make m h p len x t _ e =
     bind-case (reference bytes m p) _ x e λ a a! q.
     subst P (found-same q) (h a (reference-gives bytes m p a a!))
 
 give-two : {A : Type 0} (bytes : List ℕ) (P : A → Type 0) (make : ℕ → ℕ → A) (m m′ : ℕ) → ((a b : ℕ) → a < m → b < m′ → P (make a b))
     → KindGives P (two bytes make m m′)
 unfolding two
-give-two bytes P make m m′ h p len x t e =
+give-two bytes P make m m′ h p len x t _ e =
     bind-case (reference bytes m p) _ x e λ a a! e₁.
     bind-case (reference bytes m′ (p + 2)) _ x e₁ λ b b! q.
     subst P (found-same q) (h a b (reference-gives bytes m p a a!) (reference-gives bytes m′ (p + 2) b b!))
@@ -136,43 +136,52 @@ few size most len t = leb→le (len / size) most (and-out (eqb (len % size) 0) (
 give-clauses : (bytes : List ℕ) (P : StateSet → Type 0) (n : ℕ) (rule : ℕ → ℕ → Bool) (make : List Clause → Basic)
     → ((cs : List Clause) → FitsClauses n rule cs → P (basic (make cs))) → KindGives P (clauses bytes n rule make)
 unfolding clauses
-give-clauses bytes P n rule make h p len x t e =
+give-clauses bytes P n rule make h p len x t _ e =
     bind-case (items (clause bytes n rule) 16 p (len / 16)) _ x e λ cs cs! q.
     let r = items-give (FitsClause n rule) (clause bytes n rule) 16 (clause-gives bytes n rule) (len / 16) 0 p cs cs! in
     subst P (found-same q) (h cs (subst (λ (l : ℕ). l ≤ 256) (sym (r .0)) (few 16 256 len t), r .1))
 
-give-ascending : {A : Type 0} (P : A → Type 0) (Q : ℕ → Type 0) (read : ℕ → Result ℕ) → Gives Q read → (size most : ℕ) (make : List ℕ → A)
-    → ((xs : List ℕ) → (length xs ≤ most) × Ascending 0 xs × All Q xs → P (make xs))
-    → (p len : ℕ) (x : A) → T (upTo size most len) → (ascending read size 0 p (len / size) >>= λ xs. found (make xs)) ≡ found x → P x
-give-ascending P Q read g size most make h p len x t e =
+-- `allow` is the limits' own test of the length
+give-ascending : {A : Type 0} (P : A → Type 0) (Q : ℕ → Type 0) (read : ℕ → Result ℕ) → Gives Q read → (size most : ℕ) (allow : ℕ → Bool)
+    → (make : List ℕ → A)
+    → ((xs : List ℕ) (len : ℕ) → length xs ≡ len / size → T (allow len) → (length xs ≤ most) × Ascending 0 xs × All Q xs → P (make xs))
+    → (p len : ℕ) (x : A) → T (upTo size most len) → T (allow len) → (ascending read size 0 p (len / size) >>= λ xs. found (make xs)) ≡ found x
+    → P x
+give-ascending P Q read g size most allow make h p len x t u e =
     bind-case (ascending read size 0 p (len / size)) _ x e λ xs xs! q.
     let r = ascending-give Q read size g (len / size) 0 0 p xs xs! in
-    subst P (found-same q) (h xs (subst (λ (l : ℕ). l ≤ most) (sym (r .0)) (few size most len t), r .1, r .2))
+    subst P (found-same q) (h xs len (r .0) u (subst (λ (l : ℕ). l ≤ most) (sym (r .0)) (few size most len t), r .1, r .2))
 
 action-kinds-give : (bytes : List ℕ) (m i : ℕ) → AllGive (FitsActionSet m i) (actionKinds bytes m i)
 unfolding actionKinds
 action-kinds-give bytes m i =
     let P : ActionSet → Type 0 = FitsActionSet m i in
     give-plain P all tt
-    & give-ascending P (λ j. j < m) (reference bytes m) (reference-gives bytes m) 2 256 listed (λ xs h. h)
+    & give-ascending P (λ j. j < m) (reference bytes m) (reference-gives bytes m) 2 256 (λ _. true) listed (λ xs len n u h. h)
     & give-two bytes P either i i (λ a b l k. (l, k))
     & end
 
-state-kinds-give : (bytes : List ℕ) (n m i : ℕ) → AllGive (FitsStateSet n m i) (stateKinds bytes n m i)
-unfolding stateKinds
-state-kinds-give bytes n m i =
-    let P : StateSet → Type 0 = FitsStateSet n m i in
-    give-plain P (basic empty) tt
-    & give-plain P (basic init) tt
-    & give-plain P (basic goal) tt
-    & give-ascending P (λ s. s < 2 ^ n) (mask bytes n) (mask-gives bytes n) 8 4096 (λ ss. basic (explicit ss)) (λ xs h. h)
-    & give-clauses bytes P n hornRule horn (λ cs h. h)
-    & give-clauses bytes P n twoCnfRule twoCnf (λ cs h. h)
-    & give-one bytes P complement i (λ a l. l)
-    & give-two bytes P intersection i i (λ a b l k. (l, k))
-    & give-two bytes P union i i (λ a b l k. (l, k))
-    & give-two bytes P progression i m (λ a b l k. (l, k))
-    & give-two bytes P regression i m (λ a b l k. (l, k))
+-- entry i fits, and lists at most so many states
+abbrev pub FitsWithin : ℕ → ℕ → ℕ → ℕ → StateSet → Type 0
+FitsWithin most n m i x = FitsStateSet n m i x × (listedStates x ≤ most)
+
+state-kinds-give : (bytes : List ℕ) (most n m i : ℕ) → AllGive (FitsWithin most n m i) (stateKinds bytes most n m i)
+unfolding stateKinds listedStates
+state-kinds-give bytes most n m i =
+    let P : StateSet → Type 0 = FitsWithin most n m i in
+    let none : 0 ≤ most = omega arith in
+    give-plain P (basic empty) (tt, none)
+    & give-plain P (basic init) (tt, none)
+    & give-plain P (basic goal) (tt, none)
+    & give-ascending P (λ s. s < 2 ^ n) (mask bytes n) (mask-gives bytes n) 8 4096 (upTo 8 most) (λ ss. basic (explicit ss))
+    (λ xs len e u h. (h, subst (λ (l : ℕ). l ≤ most) (sym e) (few 8 most len u)))
+    & give-clauses bytes P n hornRule horn (λ cs h. (h, none))
+    & give-clauses bytes P n twoCnfRule twoCnf (λ cs h. (h, none))
+    & give-one bytes P complement i (λ a l. (l, none))
+    & give-two bytes P intersection i i (λ a b l k. ((l, k), none))
+    & give-two bytes P union i i (λ a b l k. ((l, k), none))
+    & give-two bytes P progression i m (λ a b l k. ((l, k), none))
+    & give-two bytes P regression i m (λ a b l k. ((l, k), none))
     & end
 
 entry-gives : {A : Type 0} (bytes : List ℕ) (P : A → Type 0) (ks : List (Kind A)) → AllGive P ks → Gives P (entry bytes ks)
@@ -182,8 +191,9 @@ entry-gives bytes P ks g p x e =
     need-case (inside (2 + len) bytes p) 3 p _ x e₁ λ _ e₂.
     need-case (leb 1 len) 4 p _ x e₂ λ _ e₃.
     bind-case (known (getElem? ks (number 1 bytes (p + 2))) 4 (p + 2)) _ x e₃ λ k k! e₄.
-    need-case (k .fits (len - 1)) 4 p _ x e₄ λ t q.
-    give-at P ks g (number 1 bytes (p + 2)) k (known-out (getElem? ks (number 1 bytes (p + 2))) 4 (p + 2) k k!) (p + 3) (len - 1) x t q
+    need-case (k .fits (len - 1)) 4 p _ x e₄ λ t e₅.
+    need-case (k .allowed (len - 1)) 19 p _ x e₅ λ u q.
+    give-at P ks g (number 1 bytes (p + 2)) k (known-out (getElem? ks (number 1 bytes (p + 2))) 4 (p + 2) k k!) (p + 3) (len - 1) x t u q
 
 entries-give : {A : Type 0} (bytes : List ℕ) (P : ℕ → A → Type 0) (kinds : ℕ → List (Kind A)) → ((i : ℕ) → AllGive (P i) (kinds i))
     → (k i p : ℕ) (r : List A × ℕ) → entries bytes kinds i p k ≡ found r → (length (r .0) ≡ k) × AllFrom P i (r .0)
@@ -203,6 +213,7 @@ pub action-sets-give : (bytes : List ℕ) (m k p : ℕ) (r : List ActionSet × �
 action-sets-give bytes m k p = entries-give bytes (FitsActionSet m) (actionKinds bytes m) (action-kinds-give bytes m) k 0 p
 
 -- k state sets of a file with n facts and m action sets
-pub state-sets-give : (bytes : List ℕ) (n m k p : ℕ) (r : List StateSet × ℕ) → entries bytes (stateKinds bytes n m) 0 p k ≡ found r
-    → (length (r .0) ≡ k) × AllFrom (FitsStateSet n m) 0 (r .0)
-state-sets-give bytes n m k p = entries-give bytes (FitsStateSet n m) (stateKinds bytes n m) (state-kinds-give bytes n m) k 0 p
+pub state-sets-give : (bytes : List ℕ) (most n m k p : ℕ) (r : List StateSet × ℕ) → entries bytes (stateKinds bytes most n m) 0 p k ≡ found r
+    → (length (r .0) ≡ k) × AllFrom (FitsWithin most n m) 0 (r .0)
+state-sets-give bytes most n m k p =
+    entries-give bytes (FitsWithin most n m) (stateKinds bytes most n m) (state-kinds-give bytes most n m) k 0 p

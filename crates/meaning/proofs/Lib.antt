@@ -1,5 +1,9 @@
 pub mod Results
 pub mod Numbers
+pub mod Numbered
+pub mod LayoutFaults
+pub mod Stages
+pub mod Breaches
 pub mod Given
 pub mod Reading
 pub mod Order
@@ -36,3 +40,4 @@ pub mod Runs
 pub mod Certain
 pub mod Shallow
 pub mod Refusals
+pub mod Limited

@@ -13,12 +13,16 @@ use Rattle.meaning.specs.Points.{CertainCertificate, SampleForm, ReadsWi
 use Rattle.meaning.specs.Points.{AnswerNumbers, ListFaults, PlainNumbers, Renumbered, RewritingIsBijective, RewrittenIsRead}
 use Rattle.meaning.specs.Points.{RewrittenAlike, NumberedIsSafe, NumberedRefusals, OneRound, RunIsCheck, RunEnds, FewestRounds}
 use Rattle.meaning.specs.Points.{HandsBack, RunIsSafe, RoundSays, EndsElsewhere, OutsideEntries, RoundCases, QuestionsBetween}
-use Rattle.meaning.specs.Points.{OutsideFitsLetters, RoundRefusals}
+use Rattle.meaning.specs.Points.{OutsideFitsLetters, RoundRefusals, FullLimits, RepliesAlike, FirstBreach, SmallIsAccepted}
+use Rattle.meaning.specs.Points.{SmallIsSafe, CertainLength, SmallSafeIsAccepted, SmallCertainCertificate, LimitCases}
+use Rattle.meaning.specs.Points.{LimitRefusals}
 use Rattle.meaning.proofs.Computed.{computed}
 use Rattle.meaning.proofs.Judgements.{judgements-true, accepted-is-safe}
-use Rattle.meaning.proofs.Certain.{certain-certificate, safe-is-accepted}
+use Rattle.meaning.proofs.Certain.{certain-certificate, safe-is-accepted, certain-length, small-safe-is-accepted}
+use Rattle.meaning.proofs.Certain.{small-certain-certificate}
 use Rattle.meaning.proofs.Shallow.{shortcut}
 use Rattle.meaning.proofs.Refusals.{refusal-numbers, numbered-refusals, round-refusals, answer-numbers}
+use Rattle.meaning.proofs.Limited.{full-limits, replies-alike, first-breach, small-is-accepted, limit-refusals}
 use Rattle.meaning.proofs.WritesBack.{writes-back}
 use Rattle.meaning.proofs.Renumber.{renumbered}
 use Rattle.meaning.proofs.Rewriting.{plain-numbers, rewriting-is-bijective, rewritten-is-read, rewritten-alike, numbered-is-safe}
@@ -138,3 +142,34 @@ questions-change-nothing-in-a-run = questions-between
 
 pub a-refused-round-has-its-number : RoundRefusals
 a-refused-round-has-its-number = round-refusals
+
+pub the-full-limits-change-nothing : FullLimits
+the-full-limits-change-nothing = full-limits
+
+pub limits-change-no-other-reply : RepliesAlike
+limits-change-no-other-reply = replies-alike
+
+pub a-breach-comes-in-the-written-order : FirstBreach
+a-breach-comes-in-the-written-order = first-breach
+
+pub what-the-small-check-accepts-is-accepted : SmallIsAccepted
+what-the-small-check-accepts-is-accepted = small-is-accepted
+
+pub a-file-that-the-small-check-accepts-is-safe : SmallIsSafe
+a-file-that-the-small-check-accepts-is-safe bytes e = accepted-is-safe bytes (small-is-accepted bytes e)
+
+pub the-certain-certificate-has-its-length : CertainLength
+the-certain-certificate-has-its-length = certain-length
+
+pub a-safe-task-has-a-small-certificate : SmallSafeIsAccepted
+a-safe-task-has-a-small-certificate = small-safe-is-accepted
+
+pub the-small-certificate-lists-what-is-within-reach : SmallCertainCertificate
+the-small-certificate-lists-what-is-within-reach = small-certain-certificate
+
+pub the-sample-meets-and-breaks-limits : LimitCases
+unfolding computed
+the-sample-meets-and-breaks-limits = (refl, refl, refl, refl, refl, refl, refl, refl, refl, refl, refl)
+
+pub a-refusal-with-limits-has-its-number : LimitRefusals
+a-refusal-with-limits-has-its-number = limit-refusals

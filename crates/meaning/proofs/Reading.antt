@@ -1,9 +1,9 @@
 -- What is known of a file that is read: all of it is within the format's limits.
 -- Assumes nothing.
 use mathlib.Core.Path.{_≡_, refl, sym, ap, subst}
-use Prim.Native.Nat.{ℕ, _+_, _*_, _≤_}
+use Prim.Native.Nat.{ℕ, suc, _+_, _*_, _≤_}
 use mathlib.Core.Bool.{_&&_}
-use mathlib.Core.List.{List}
+use mathlib.Core.List.{List, [], _∷_}
 use lib.ListN.{length}
 use lib.Dec.{eqb, leb, eqb→eq, leb→le}
 use Rattle.task.specs.declared.Action.{Action}
@@ -11,8 +11,11 @@ use Rattle.task.specs.Task.{Task}
 use Rattle.meaning.specs.Result.{found}
 use Rattle.meaning.specs.Bytes.{number, inside, AreBytes}
 use Rattle.meaning.specs.File.{ActionSet, StateSet, Step, File}
-use Rattle.meaning.specs.Layout.{items, field, count, mask, action, step, actionKinds, stateKinds, entries, readTask, readFile}
-use Rattle.meaning.specs.Writing.{AllFrom, All, FitsAction, FitsTask, FitsActionSet, FitsStateSet, FitsStep, Fits}
+use Rattle.meaning.specs.declared.Limits.{Limits}
+use Rattle.meaning.specs.Limits.{full}
+use Rattle.meaning.specs.Layout.{items, field, count, mask, action, step, actionKinds, stateKinds, entries, readTask, readWithin}
+use Rattle.meaning.specs.Layout.{readFile}
+use Rattle.meaning.specs.Writing.{AllFrom, All, FitsAction, FitsTask, FitsActionSet, FitsStateSet, FitsStep, listedStates, Allowed, Fits}
 use Rattle.meaning.proofs.Results.{found-same, bind-case, need-case, and-out}
 use Rattle.meaning.proofs.Numbers.{number-lt}
 use Rattle.meaning.proofs.Given.{Gives, mask-gives, count-gives, action-gives, items-give, action-sets-give, state-sets-give}
@@ -97,7 +100,7 @@ pub record Read (bytes : List ℕ) (f : File) : Type 0 where
   pub few-state-sets : length (f .stateSets) ≤ 512
   pub state-sets : AllFrom (FitsStateSet (f .task .facts) (length (f .actionSets))) 0 (f .stateSets)
   pub some-steps : 1 ≤ length (f .steps)
-  pub few-steps : length (f .steps) ≤ 2048
+  pub few-steps : length (f .steps) ≤ full .steps
   pub three : All (λ s. length (s .premises) ≡ 3) (f .steps)
 
 three-gives : (bytes : List ℕ) → Gives (λ s. length (s .premises) ≡ 3) (step bytes)
@@ -121,10 +124,11 @@ step-gives bytes h p s e =
     })
 
 -- the parts of a file that is read, each from where the one before it ends
-pub record Walked (bytes : List ℕ) (f : File) : Type 0 where
+pub record Walked (l : Limits) (bytes : List ℕ) (f : File) : Type 0 where
   pub long : 4 ≤ length bytes
   pub size : number 4 bytes 0 + 4 ≡ length bytes
-  pub short : length bytes ≤ 65536
+  pub short : length bytes ≤ full .size
+  pub allowed-size : length bytes ≤ l .size
   pub t : Task × ℕ
   pub t! : readTask bytes ≡ found t
   pub ac : ℕ
@@ -134,32 +138,36 @@ pub record Walked (bytes : List ℕ) (f : File) : Type 0 where
   pub sc : ℕ
   pub sc! : count bytes 0 512 (es .1) ≡ found sc
   pub ss : List StateSet × ℕ
-  pub ss! : entries bytes (stateKinds bytes (t .0 .facts) ac) 0 (es .1 + 2) sc ≡ found ss
+  pub ss! : entries bytes (stateKinds bytes (l .states) (t .0 .facts) ac) 0 (es .1 + 2) sc ≡ found ss
   pub kc : ℕ
-  pub kc! : count bytes 1 2048 (ss .1) ≡ found kc
+  pub kc! : count bytes 1 (full .steps) (ss .1) ≡ found kc
+  pub allowed-steps : kc ≤ l .steps
   pub ks : List Step
   pub ks! : items (step bytes) 12 (ss .1 + 2) kc ≡ found ks
   pub last : length bytes ≤ ss .1 + 2 + 12 * kc
   pub whole : record { task = t .0; actionSets = es .0; stateSets = ss .0; steps = ks } ≡ f
 
-pub file-walked : (bytes : List ℕ) (f : File) → readFile bytes ≡ found f → Walked bytes f
-unfolding readFile
-file-walked bytes f e =
-    need-case (leb 4 (length bytes) && leb (length bytes) 65536) 1 0 _ f e λ l e₁.
+pub within-walked : (l : Limits) (bytes : List ℕ) (f : File) → readWithin l bytes ≡ found f → Walked l bytes f
+unfolding readWithin
+within-walked l bytes f e =
+    need-case (leb 4 (length bytes) && leb (length bytes) (full .size)) 1 0 _ f e λ long e₁.
     need-case (eqb (number 4 bytes 0 + 4) (length bytes)) 1 0 _ f e₁ λ size e₂.
-    bind-case (readTask bytes) _ f e₂ λ t t! e₃.
-    bind-case (count bytes 0 256 (t .1)) _ f e₃ λ ac ac! e₄.
-    bind-case (entries bytes (actionKinds bytes (length (t .0 .actions))) 0 (t .1 + 2) ac) _ f e₄ λ es es! e₅.
-    bind-case (count bytes 0 512 (es .1)) _ f e₅ λ sc sc! e₆.
-    bind-case (entries bytes (stateKinds bytes (t .0 .facts) ac) 0 (es .1 + 2) sc) _ f e₆ λ ss ss! e₇.
-    bind-case (count bytes 1 2048 (ss .1)) _ f e₇ λ kc kc! e₈.
-    bind-case (items (step bytes) 12 (ss .1 + 2) kc) _ f e₈ λ ks ks! e₉.
-    need-case (leb (length bytes) (ss .1 + 2 + 12 * kc)) 3 (ss .1 + 2 + 12 * kc) _ f e₉ λ last q.
-    let b = and-out (leb 4 (length bytes)) (leb (length bytes) 65536) l in
+    need-case (leb (length bytes) (l .size)) 19 0 _ f e₂ λ small e₃.
+    bind-case (readTask bytes) _ f e₃ λ t t! e₄.
+    bind-case (count bytes 0 256 (t .1)) _ f e₄ λ ac ac! e₅.
+    bind-case (entries bytes (actionKinds bytes (length (t .0 .actions))) 0 (t .1 + 2) ac) _ f e₅ λ es es! e₆.
+    bind-case (count bytes 0 512 (es .1)) _ f e₆ λ sc sc! e₇.
+    bind-case (entries bytes (stateKinds bytes (l .states) (t .0 .facts) ac) 0 (es .1 + 2) sc) _ f e₇ λ ss ss! e₈.
+    bind-case (count bytes 1 (full .steps) (ss .1)) _ f e₈ λ kc kc! e₉.
+    need-case (leb kc (l .steps)) 19 (ss .1) _ f e₉ λ few e₁₀.
+    bind-case (items (step bytes) 12 (ss .1 + 2) kc) _ f e₁₀ λ ks ks! e₁₁.
+    need-case (leb (length bytes) (ss .1 + 2 + 12 * kc)) 3 (ss .1 + 2 + 12 * kc) _ f e₁₁ λ last q.
+    let b = and-out (leb 4 (length bytes)) (leb (length bytes) (full .size)) long in
     record {
       long = leb→le 4 (length bytes) (b .0);
       size = eqb→eq (number 4 bytes 0 + 4) (length bytes) size;
-      short = leb→le (length bytes) 65536 (b .1);
+      short = leb→le (length bytes) (full .size) (b .1);
+      allowed-size = leb→le (length bytes) (l .size) small;
       t = t;
       t! = t!;
       ac = ac;
@@ -172,23 +180,34 @@ file-walked bytes f e =
       ss! = ss!;
       kc = kc;
       kc! = kc!;
+      allowed-steps = leb→le kc (l .steps) few;
       ks = ks;
       ks! = ks!;
       last = leb→le (length bytes) (ss .1 + 2 + 12 * kc) last;
       whole = found-same q;
     }
 
+pub file-walked : (bytes : List ℕ) (f : File) → readFile bytes ≡ found f → Walked full bytes f
+unfolding readFile
+file-walked bytes f e = within-walked full bytes f e
+
+-- of two properties of each item, each
+each-of : {A : Type 0} (P Q : ℕ → A → Type 0) (i : ℕ) (xs : List A) → AllFrom (λ i x. P i x × Q i x) i xs → AllFrom P i xs × AllFrom Q i xs
+each-of P Q i [] h = (tt, tt)
+each-of P Q i (x ∷ xs) h = let r = each-of P Q (suc i) xs (h .1) in ((h .0 .0, r .0), (h .0 .1, r .1))
+
 -- what is read is within the limits, with one more property of the steps
-file-read-with : (bytes : List ℕ) (Q : Step → Type 0) → Gives Q (step bytes) → (f : File) → readFile bytes ≡ found f
-    → Read bytes f × All Q (f .steps)
-file-read-with bytes Q given f e =
-    let w = file-walked bytes f e in
+read-with : (l : Limits) (bytes : List ℕ) (Q : Step → Type 0) → Gives Q (step bytes) → (f : File) → readWithin l bytes ≡ found f
+    → Read bytes f × Allowed l (f .stateSets) (f .steps) × All Q (f .steps)
+read-with l bytes Q given f e =
+    let w = within-walked l bytes f e in
     let a = action-sets-give bytes (length (w .t .0 .actions)) (w .ac) (w .t .1 + 2) (w .es) (w .es!) in
-    let x = state-sets-give bytes (w .t .0 .facts) (w .ac) (w .sc) (w .es .1 + 2) (w .ss) (w .ss!) in
+    let x = state-sets-give bytes (l .states) (w .t .0 .facts) (w .ac) (w .sc) (w .es .1 + 2) (w .ss) (w .ss!) in
+    let y = each-of (FitsStateSet (w .t .0 .facts) (w .ac)) (λ _ s. listedStates s ≤ l .states) 0 (w .ss .0) (x .1) in
     let k = items-give (λ (s : Step). length (s .premises) ≡ 3) (step bytes) 12 (three-gives bytes) (w .kc) 0 (w .ss .1 + 2) (w .ks)
     (w .ks!) in
-    let c = count-gives bytes 1 2048 (w .ss .1) (w .kc) (w .kc!) in
-    subst (λ (g : File). Read bytes g × All Q (g .steps)) (w .whole) (
+    let c = count-gives bytes 1 (full .steps) (w .ss .1) (w .kc) (w .kc!) in
+    subst (λ (g : File). Read bytes g × Allowed l (g .stateSets) (g .steps) × All Q (g .steps)) (w .whole) (
       record {
         end = w .t .1;
         table = w .t!;
@@ -196,21 +215,23 @@ file-read-with bytes Q given f e =
         few-action-sets = subst (λ (l : ℕ). l ≤ 256) (sym (a .0)) (count-gives bytes 0 256 (w .t .1) (w .ac) (w .ac!) .1);
         action-sets = a .1;
         few-state-sets = subst (λ (l : ℕ). l ≤ 512) (sym (x .0)) (count-gives bytes 0 512 (w .es .1) (w .sc) (w .sc!) .1);
-        state-sets = subst (λ (m : ℕ). AllFrom (FitsStateSet (w .t .0 .facts) m) 0 (w .ss .0)) (sym (a .0)) (x .1);
+        state-sets = subst (λ (m : ℕ). AllFrom (FitsStateSet (w .t .0 .facts) m) 0 (w .ss .0)) (sym (a .0)) (y .0);
         some-steps = subst (λ (l : ℕ). 1 ≤ l) (sym (k .0)) (c .0);
-        few-steps = subst (λ (l : ℕ). l ≤ 2048) (sym (k .0)) (c .1);
+        few-steps = subst (λ (l : ℕ). l ≤ full .steps) (sym (k .0)) (c .1);
         three = k .1;
       },
+      record { states = y .1; steps = subst (λ (n : ℕ). n ≤ l .steps) (sym (k .0)) (w .allowed-steps) },
       items-give Q (step bytes) 12 given (w .kc) 0 (w .ss .1 + 2) (w .ks) (w .ks!) .1,
     )
 
 pub file-read : (bytes : List ℕ) (f : File) → readFile bytes ≡ found f → Read bytes f
-file-read bytes f e = file-read-with bytes (λ s. length (s .premises) ≡ 3) (three-gives bytes) f e .0
+unfolding readFile
+file-read bytes f e = read-with full bytes (λ s. length (s .premises) ≡ 3) (three-gives bytes) f e .0
 
 -- a file that is read from bytes is within the limits
-pub reads-within : (bytes : List ℕ) (f : File) → AreBytes bytes → readFile bytes ≡ found f → Fits f
-reads-within bytes f h e =
-    let r = file-read-with bytes FitsStep (step-gives bytes h) f e in
+pub reads-within : (l : Limits) (bytes : List ℕ) (f : File) → AreBytes bytes → readWithin l bytes ≡ found f → Fits l f
+reads-within l bytes f h e =
+    let r = read-with l bytes FitsStep (step-gives bytes h) f e in
     record {
       task = r .0 .task;
       certificate = record {
@@ -220,6 +241,7 @@ reads-within bytes f h e =
         state-sets = r .0 .state-sets;
         some-steps = r .0 .some-steps;
         few-steps = r .0 .few-steps;
-        steps = r .1;
+        steps = r .2;
       };
+      allowed = r .1;
     }

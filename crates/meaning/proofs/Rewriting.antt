@@ -11,6 +11,7 @@ use Rattle.task.proofs.Tests.{each-at}
 use Rattle.meaning.specs.Result.{Result, refuse, found, _>>=_}
 use Rattle.meaning.specs.Bytes.{AreBytes}
 use Rattle.meaning.specs.File.{Step, File, actionSetAt, stateSetAt}
+use Rattle.meaning.specs.Limits.{full}
 use Rattle.meaning.specs.Layout.{readFile}
 use Rattle.meaning.specs.Writing.{each, writeStep, counted, writeCertificate, writeFile, AllFrom, FitsStep, Fits}
 use Rattle.meaning.specs.Reply.{checkFile, replyTo, replyOf}
@@ -68,10 +69,10 @@ module _ (g : ℕ → ℕ) where
       )
 
   module _ (l : (x : ℕ) → x < 256 → g x < 256) (bytes : List ℕ) (b : AreBytes bytes) (f : File) (r : readFile bytes ≡ found f) where
-    fits : Fits (rewritten g f)
-    unfolding rewritten
+    fits : Fits full (rewritten g f)
+    unfolding rewritten readFile
     fits =
-        let h = reads-within bytes f b r in
+        let h = reads-within full bytes f b r in
         let c = h .certificate in
         let n = count-stays g (f .steps) in
         record {
@@ -82,9 +83,10 @@ module _ (g : ℕ → ℕ) where
             few-state-sets = c .few-state-sets;
             state-sets = c .state-sets;
             some-steps = subst (λ (k : ℕ). 1 ≤ k) (sym n) (c .some-steps);
-            few-steps = subst (λ (k : ℕ). k ≤ 2048) (sym n) (c .few-steps);
+            few-steps = subst (λ (k : ℕ). k ≤ full .steps) (sym n) (c .few-steps);
             steps = steps-fit l (f .steps) 0 (c .steps);
           };
+          allowed = record { states = h .allowed .states; steps = subst (λ (k : ℕ). k ≤ full .steps) (sym n) (h .allowed .steps) };
         }
 
     written : rewriteBytes g bytes ≡ writeFile (rewritten g f)
@@ -93,13 +95,14 @@ module _ (g : ℕ → ℕ) where
 
     -- a rewritten file is read as such
     pub read-rewritten : readFile (rewriteBytes g bytes) ≡ found (rewritten g f)
+    unfolding readFile
     read-rewritten =
         let n : length (writeFile (rewritten g f)) ≡ length bytes = same-length f ∙ ap length (writes-back bytes f b r) in
         let short = file-walked bytes f r .short in
-        ap readFile written ∙ reads-back (rewritten g f) fits (omega arith)
+        ap readFile written ∙ reads-back full (rewritten g f) fits (omega arith) (omega arith)
 
     bytes-rewritten : AreBytes (rewriteBytes g bytes)
-    bytes-rewritten = subst AreBytes (sym written) (file-bytes (rewritten g f) fits)
+    bytes-rewritten = subst AreBytes (sym written) (file-bytes full (rewritten g f) fits)
 
   -- bytes that are no file stay
   unread : (bytes : List ℕ) (r p : ℕ) → readFile bytes ≡ refuse r p → rewriteBytes g bytes ≡ bytes

@@ -133,11 +133,11 @@ module _ (f : File) where
 
   -- ---- where a round leaves the check
 
-  pub hands-on : (n : ℕ) → n < length (f .steps) → handBack f n ≡ found (some n)
+  hands-on : (n : ℕ) → n < length (f .steps) → handBack f n ≡ found (some n)
   unfolding handBack
   hands-on n l = rw (lt-ltb n (length (f .steps)) l, handBack) refl
 
-  pub hands-none : (n : ℕ) → length (f .steps) ≤ n → handBack f n ≡ (checkLast f >>= λ _. found none)
+  hands-none : (n : ℕ) → length (f .steps) ≤ n → handBack f n ≡ (checkLast f >>= λ _. found none)
   unfolding handBack
   hands-none n l = rw (le-ltb n (length (f .steps)) l, handBack) refl
 

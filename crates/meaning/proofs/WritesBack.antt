@@ -9,6 +9,7 @@ use Rattle.task.specs.Task.{Task}
 use Rattle.meaning.specs.Result.{Result, found}
 use Rattle.meaning.specs.Bytes.{bytesOf, number, AreBytes}
 use Rattle.meaning.specs.File.{File}
+use Rattle.meaning.specs.Limits.{full}
 use Rattle.meaning.specs.Layout.{items, count, action, step, readTask, readFile}
 use Rattle.meaning.specs.Writing.{each, writeAction, writeActionSet, writeStateSet, writeStep, counted, writeTask, writeCertificate}
 use Rattle.meaning.specs.Writing.{fileOf, writeFile}
@@ -64,8 +65,8 @@ module _ (bytes : List ℕ) (h : AreBytes bytes) where
       (action-sets-again bytes h m (w .ac) (p + 2) (w .es) (w .es!)) in
       let ss : Spans bytes q r (counted writeStateSet (w .ss .0)) =
       counted-again writeStateSet 0 512 q r (w .sc) (w .ss .0) (w .sc!)
-      (state-sets-give bytes n (w .ac) (w .sc) (q + 2) (w .ss) (w .ss!) .0)
-      (state-sets-again bytes h n (w .ac) (w .sc) (q + 2) (w .ss) (w .ss!)) in
+      (state-sets-give bytes (full .states) n (w .ac) (w .sc) (q + 2) (w .ss) (w .ss!) .0)
+      (state-sets-again bytes h (full .states) n (w .ac) (w .sc) (q + 2) (w .ss) (w .ss!)) in
       let ks = counted-items writeStep 12 (step bytes) (step-again bytes h) 1 2048 r (w .kc) (w .ks) (w .kc!) (w .ks!) in
       subst Behind (w .whole) (r + 2 + 12 * w .kc, w .last, joined (task-again (w .t) (w .t!)) (joined (joined es ss) ks))
 

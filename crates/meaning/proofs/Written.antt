@@ -11,9 +11,12 @@ use Rattle.task.specs.declared.Action.{Action}
 use Rattle.meaning.specs.Result.{found}
 use Rattle.meaning.specs.Bytes.{bytesOf, number}
 use Rattle.meaning.specs.File.{ActionSet, StateSet, Step, File}
-use Rattle.meaning.specs.Layout.{action, step, readTask, readFile}
+use Rattle.meaning.specs.declared.Limits.{Limits}
+use Rattle.meaning.specs.Limits.{full}
+use Rattle.meaning.specs.Layout.{action, step, readTask, readWithin}
 use Rattle.meaning.specs.Writing.{each, writeAction, writeActionSet, writeStateSet, writeStep, counted, writeTask, writeCertificate}
-use Rattle.meaning.specs.Writing.{fileOf, writeFile, AllFrom, FitsAction, FitsTask, FitsStep, FitsCertificate, Fits, Lawful}
+use Rattle.meaning.specs.Writing.{fileOf, writeFile, AllFrom, FitsAction, FitsTask, FitsStateSet, FitsStep, FitsCertificate}
+use Rattle.meaning.specs.Writing.{listedStates, Allowed, Fits, Lawful}
 use Rattle.meaning.proofs.Results.{bind-in, need-in, and-in}
 use Rattle.meaning.proofs.Numbers.{length-bytesOf}
 use Rattle.meaning.proofs.Reading.{task-fits}
@@ -73,13 +76,19 @@ task-lawful t h =
 
 -- ---- files
 
+-- two properties of each item, as one
+both-of : {A : Type 0} (P Q : ℕ → A → Type 0) (i : ℕ) (xs : List A) → AllFrom P i xs → AllFrom Q i xs → AllFrom (λ i x. P i x × Q i x) i xs
+both-of P Q i [] h k = tt
+both-of P Q i (x ∷ xs) h k = ((h .0, k .0), both-of P Q (suc i) xs (h .1) (k .1))
+
 -- a certificate that stands behind the task is read back
-certificate-back : (b : List ℕ) (t : Task) (q : ℕ) (es : List ActionSet) (ss : List StateSet) (ks : List Step)
-    → 4 ≤ length b → length b ≤ 65536 → number 4 b 0 + 4 ≡ length b → readTask b ≡ found (t, q) → FitsCertificate t es ss ks
+certificate-back : (l : Limits) (b : List ℕ) (t : Task) (q : ℕ) (es : List ActionSet) (ss : List StateSet) (ks : List Step)
+    → 4 ≤ length b → length b ≤ full .size → length b ≤ l .size → number 4 b 0 + 4 ≡ length b → readTask b ≡ found (t, q)
+    → FitsCertificate t es ss ks → Allowed l ss ks
     → At b q (writeCertificate es ss ks ++ [])
-    → readFile b ≡ found (record { task = t; actionSets = es; stateSets = ss; steps = ks })
-unfolding readFile writeCertificate counted
-certificate-back b t q es ss ks low high size t! h w =
+    → readWithin l b ≡ found (record { task = t; actionSets = es; stateSets = ss; steps = ks })
+unfolding readWithin writeCertificate counted
+certificate-back l b t q es ss ks low high small size t! h a w =
     let ft : FitsTask t = task-fits b t q t! in
     let w₀ : At b q (bytesOf 2 (length es) ++ (each writeActionSet es
     ++ (bytesOf 2 (length ss) ++ (each writeStateSet ss ++ (bytesOf 2 (length ks) ++ (each writeStep ks ++ [])))))) =
@@ -93,20 +102,24 @@ certificate-back b t q es ss ks low high size t! h w =
     let w₅ = after-number b q₂ 2 (length ks) _ w₄ (q₂ + 2) refl in
     let k : length (each writeStep ks) ≡ 12 * length ks = length-each FitsStep writeStep 12 length-step ks 0 (h .steps) in
     let last : length b ≤ q₂ + 2 + 12 * length ks = (let s = w₅ .size in let n = length-append (each writeStep ks) [] in omega arith) in
-    bind-in _ (need-in _ 1 0 (and-in (leb 4 (length b)) (leb (length b) 65536) (le→leb 4 (length b) low) (le→leb (length b) 65536 high)))
+    let sets = both-of (FitsStateSet (t .facts) (length es)) (λ _ x. listedStates x ≤ l .states) 0 ss (h .state-sets) (a .states) in
+    bind-in _ (need-in _ 1 0 (and-in (leb 4 (length b)) (leb (length b) (full .size)) (le→leb 4 (length b) low)
+    (le→leb (length b) (full .size) high)))
     (bind-in _ (need-in _ 1 0 (subst (λ (x : ℕ). T (eqb (number 4 b 0 + 4) x)) size (eqb-refl (number 4 b 0 + 4))))
+    (bind-in _ (need-in _ 19 0 (le→leb (length b) (l .size) small))
     (bind-in _ t!
     (bind-in _ (count-back b 0 256 (omega arith) (length es) (omega arith, h .few-action-sets) q _ w₀)
     (bind-in _ (action-sets-back b (length (t .actions)) (ft .few-actions) es (h .few-action-sets) (h .action-sets) (q + 2) _ w₁)
     (bind-in _ (count-back b 0 512 (omega arith) (length ss) (omega arith, h .few-state-sets) q₁ _ w₂)
-    (bind-in _ (state-sets-back b (t .facts) (length es) (ft .few-facts) (h .few-action-sets) ss (h .few-state-sets) (h .state-sets)
+    (bind-in _ (state-sets-back b (l .states) (t .facts) (length es) (ft .few-facts) (h .few-action-sets) ss (h .few-state-sets) sets
     (q₁ + 2) _ w₃)
-    (bind-in _ (count-back b 1 2048 (omega arith) (length ks) (h .some-steps, h .few-steps) q₂ _ w₄)
+    (bind-in _ (count-back b 1 (full .steps) (omega arith) (length ks) (h .some-steps, h .few-steps) q₂ _ w₄)
+    (bind-in _ (need-in _ 19 q₂ (le→leb (length ks) (l .steps) (a .steps)))
     (bind-in _ (items-back FitsStep writeStep 12 length-step b (step b) (step-back b) ks 0 (h .steps) (q₂ + 2) [] w₅)
-    (bind-in _ (need-in _ 3 (q₂ + 2 + 12 * length ks) (le→leb (length b) (q₂ + 2 + 12 * length ks) last)) refl)))))))))
+    (bind-in _ (need-in _ 3 (q₂ + 2 + 12 * length ks) (le→leb (length b) (q₂ + 2 + 12 * length ks) last)) refl)))))))))))
 
 -- a file's length field
-file-number : (table certificate : List ℕ) → length (fileOf table certificate) ≤ 65536
+file-number : (table certificate : List ℕ) → length (fileOf table certificate) ≤ full .size
     → number 4 (fileOf table certificate) 0 + 4 ≡ length (fileOf table certificate)
 unfolding fileOf
 file-number table certificate short =
@@ -115,20 +128,22 @@ file-number table certificate short =
     ap (λ (k : ℕ). k + 4) (number-back (fileOf table certificate) 0 4 n _ (whole (fileOf table certificate)) (omega arith)) ∙ omega arith
 
 -- a certificate that fits is read back behind any lawful table
-pub certificate-reads : (table : List ℕ) (t : Task) (es : List ActionSet) (ss : List StateSet) (ks : List Step)
-    → Lawful table t → FitsCertificate t es ss ks → length (fileOf table (writeCertificate es ss ks)) ≤ 65536
-    → readFile (fileOf table (writeCertificate es ss ks)) ≡ found (record { task = t; actionSets = es; stateSets = ss; steps = ks })
-certificate-reads table t es ss ks law h short =
+pub certificate-reads : (l : Limits) (table : List ℕ) (t : Task) (es : List ActionSet) (ss : List StateSet) (ks : List Step)
+    → Lawful table t → FitsCertificate t es ss ks → Allowed l ss ks
+    → length (fileOf table (writeCertificate es ss ks)) ≤ full .size → length (fileOf table (writeCertificate es ss ks)) ≤ l .size
+    → readWithin l (fileOf table (writeCertificate es ss ks)) ≡ found (record { task = t; actionSets = es; stateSets = ss; steps = ks })
+certificate-reads l table t es ss ks law h a short small =
     let c : List ℕ = writeCertificate es ss ks in
     let b : List ℕ = fileOf table c in
     let n : length b ≡ 4 + (length table + length c) = length-file table c in
     let w : At b (4 + length table) c = at-next b 4 table c (file-at table c) (4 + length table) refl in
-    certificate-back b t (4 + length table) es ss ks (omega arith) short (file-number table c short) (lawful-reads table c t law) h
+    certificate-back l b t (4 + length table) es ss ks (omega arith) short small (file-number table c short) (lawful-reads table c t law) h a
     (subst (At b (4 + length table)) (sym (append-nil c)) w)
 
 -- a file that fits is read back
-pub reads-back : (f : File) → Fits f → length (writeFile f) ≤ 65536 → readFile (writeFile f) ≡ found f
+pub reads-back : (l : Limits) (f : File) → Fits l f → length (writeFile f) ≤ full .size → length (writeFile f) ≤ l .size
+    → readWithin l (writeFile f) ≡ found f
 unfolding writeFile
-reads-back f h short =
-    certificate-reads (writeTask (f .task)) (f .task) (f .actionSets) (f .stateSets) (f .steps) (task-lawful (f .task) (h .task))
-    (h .certificate) short
+reads-back l f h short small =
+    certificate-reads l (writeTask (f .task)) (f .task) (f .actionSets) (f .stateSets) (f .steps) (task-lawful (f .task) (h .task))
+    (h .certificate) (h .allowed) short small

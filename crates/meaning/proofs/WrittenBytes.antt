@@ -16,6 +16,7 @@ use Rattle.meaning.specs.File.{complement, intersection, union, progress
 use Rattle.meaning.specs.Writing.{each, writeClause, writeEntry, actionBody, basicBody, stateBody, writeActionSet, writeStateSet}
 use Rattle.meaning.specs.Writing.{writeAction, writeStep, counted, writeTask, writeCertificate, fileOf, writeFile, AllFrom}
 use Rattle.meaning.specs.Writing.{FitsTask, FitsStep, Fits}
+use Rattle.meaning.specs.declared.Limits.{Limits}
 use Rattle.meaning.proofs.Written.{anything}
 
 -- each number is a byte: of ∷, of ++, of a written number, of items
@@ -117,9 +118,9 @@ bytes-task t h =
     (bytes-append (bytesOf 2 (length (t .actions))) (each writeAction (t .actions)) (bytes-number 2 (length (t .actions)))
     (bytes-all writeAction bytes-action (t .actions)))
 
-pub file-bytes : (f : File) → Fits f → AreBytes (writeFile f)
+pub file-bytes : (l : Limits) (f : File) → Fits l f → AreBytes (writeFile f)
 unfolding writeFile fileOf
-file-bytes f h =
+file-bytes l f h =
     let table : List ℕ = writeTask (f .task) in
     let certificate : List ℕ = writeCertificate (f .actionSets) (f .stateSets) (f .steps) in
     bytes-append (bytesOf 4 (length (table ++ certificate))) (table ++ certificate) (bytes-number 4 (length (table ++ certificate)))

@@ -1,7 +1,7 @@
--- How a file is read, front to back, with replies 1 to 7 at the written places and in the written order.
+-- How a file is read, front to back, with replies 1 to 7 at the written places and in the written order, and 19 for a check's own limits.
 -- Assumes nothing.
 use Prim.Native.Nat.{ℕ, zero, suc, _+_, _-_, _*_, _/_, _%_, _^_}
-use mathlib.Core.Bool.{Bool, _&&_}
+use mathlib.Core.Bool.{Bool, true, _&&_}
 use mathlib.Core.List.{List, [], _∷_}
 use lib.ListN.{length, getElem?}
 use lib.Dec.{leb, ltb, eqb}
@@ -10,6 +10,8 @@ use Rattle.task.specs.declared.Action.{Action}
 use Rattle.meaning.specs.declared.Clause.{Clause}
 use Rattle.meaning.specs.Result.{Result, found, _>>=_, need, known}
 use Rattle.meaning.specs.Bytes.{number, inside}
+use Rattle.meaning.specs.declared.Limits.{Limits}
+use Rattle.meaning.specs.Limits.{full}
 use Rattle.meaning.specs.File.{ActionSet, all, listed, either, Basic, empty, init, goal, explicit, horn, twoCnf, StateSet, basic, complement, intersection, union, progression, regression, Step, File}
 
 -- ---- clauses
@@ -105,9 +107,10 @@ module _ (bytes : List ℕ) where
 
 -- ---- entries
 
--- a kind of entry: which lengths of a body fit it, and what a body at a place, of that length, holds
+-- a kind of entry: which lengths of a body fit it, which of these a check's limits allow, and what a body at a place, of that length, holds
 pub record Kind (A : Type 0) : Type 0 where
   pub fits : ℕ → Bool
+  pub allowed : ℕ → Bool
   pub body : ℕ → ℕ → Result A
 
 -- up to `most` items of `size` bytes each
@@ -116,13 +119,14 @@ upTo size most len = eqb (len % size) 0 && leb (len / size) most
 
 -- no body
 unfoldable pub plain : {A : Type 0} → A → Kind A
-plain a = record { fits = λ len. eqb len 0; body = λ p len. found a }
+plain a = record { fits = λ len. eqb len 0; allowed = λ len. true; body = λ p len. found a }
 
 module _ (bytes : List ℕ) where
   -- one reference, or two, each below its bound
   unfoldable pub one : {A : Type 0} → (ℕ → A) → ℕ → Kind A
   one make bound = record {
     fits = λ len. eqb len 2;
+    allowed = λ len. true;
     body = λ p len. do
       a ← reference bytes bound p
       found (make a);
@@ -131,6 +135,7 @@ module _ (bytes : List ℕ) where
   unfoldable pub two : {A : Type 0} → (ℕ → ℕ → A) → ℕ → ℕ → Kind A
   two make bound bound′ = record {
     fits = λ len. eqb len 4;
+    allowed = λ len. true;
     body = λ p len. do
       a ← reference bytes bound p
       b ← reference bytes bound′ (p + 2)
@@ -141,6 +146,7 @@ module _ (bytes : List ℕ) where
   unfoldable pub clauses : ℕ → (ℕ → ℕ → Bool) → (List Clause → Basic) → Kind StateSet
   clauses n rule make = record {
     fits = upTo 16 256;
+    allowed = λ len. true;
     body = λ p len. do
       cs ← items (clause bytes n rule) 16 p (len / 16)
       found (basic (make cs));
@@ -152,6 +158,7 @@ module _ (bytes : List ℕ) where
       plain all
       ∷ record {
         fits = upTo 2 256;
+        allowed = λ len. true;
         body = λ p len. do
           is ← ascending (reference bytes m) 2 0 p (len / 2)
           found (listed is);
@@ -159,14 +166,15 @@ module _ (bytes : List ℕ) where
       ∷ two either i i
       ∷ []
 
-  -- the kinds of state set, 0 to 10, for entry i of a file with n facts and m action sets
-  unfoldable pub stateKinds : ℕ → ℕ → ℕ → List (Kind StateSet)
-  stateKinds n m i =
+  -- the kinds of state set, 0 to 10, for entry i of a file with n facts and m action sets, where `most` listed states are allowed
+  unfoldable pub stateKinds : ℕ → ℕ → ℕ → ℕ → List (Kind StateSet)
+  stateKinds most n m i =
       plain (basic empty)
       ∷ plain (basic init)
       ∷ plain (basic goal)
       ∷ record {
-        fits = upTo 8 4096;
+        fits = upTo 8 (full .states);
+        allowed = upTo 8 most;
         body = λ p len. do
           ss ← ascending (mask bytes n) 8 0 p (len / 8)
           found (basic (explicit ss));
@@ -180,7 +188,7 @@ module _ (bytes : List ℕ) where
       ∷ two regression i m
       ∷ []
 
-  -- the entry at place p: whether it ends within the file, its kind, its length against the kind, its body
+  -- the entry at place p: whether it ends within the file, its kind, its length against the kind and against the limits, its body
   unfoldable pub entry : {A : Type 0} → List (Kind A) → ℕ → Result A
   entry kinds p = do
     len ← field bytes 2 p
@@ -188,6 +196,7 @@ module _ (bytes : List ℕ) where
     _ ← need (leb 1 len) 4 p
     k ← known (getElem? kinds (number 1 bytes (p + 2))) 4 (p + 2)
     _ ← need (k .fits (len - 1)) 4 p
+    _ ← need (k .allowed (len - 1)) 19 p
     k .body (p + 3) (len - 1)
 
   -- k entries from place p, the first of them entry i; and the place after them
@@ -213,16 +222,23 @@ module _ (bytes : List ℕ) where
     acts ← items (action bytes n) 24 24 m
     found (record { facts = n; init = s; goal = g; actions = acts }, 24 + 24 * m)
 
-  unfoldable pub readFile : Result File
-  readFile = do
-    _ ← need (leb 4 (length bytes) && leb (length bytes) 65536) 1 0
-    _ ← need (eqb (number 4 bytes 0 + 4) (length bytes)) 1 0
-    t ← readTask
-    ac ← count bytes 0 256 (t .1)
-    es ← entries (actionKinds (length (t .0 .actions))) 0 (t .1 + 2) ac
-    sc ← count bytes 0 512 (es .1)
-    ss ← entries (stateKinds (t .0 .facts) ac) 0 (es .1 + 2) sc
-    kc ← count bytes 1 2048 (ss .1)
-    ks ← items (step bytes) 12 (ss .1 + 2) kc
-    _ ← need (leb (length bytes) (ss .1 + 2 + 12 * kc)) 3 (ss .1 + 2 + 12 * kc)
-    found (record { task = t .0; actionSets = es .0; stateSets = ss .0; steps = ks })
+-- a file, by a check with limits of its own
+unfoldable pub readWithin : Limits → List ℕ → Result File
+readWithin l bytes = do
+  _ ← need (leb 4 (length bytes) && leb (length bytes) (full .size)) 1 0
+  _ ← need (eqb (number 4 bytes 0 + 4) (length bytes)) 1 0
+  _ ← need (leb (length bytes) (l .size)) 19 0
+  t ← readTask bytes
+  ac ← count bytes 0 256 (t .1)
+  es ← entries bytes (actionKinds bytes (length (t .0 .actions))) 0 (t .1 + 2) ac
+  sc ← count bytes 0 512 (es .1)
+  ss ← entries bytes (stateKinds bytes (l .states) (t .0 .facts) ac) 0 (es .1 + 2) sc
+  kc ← count bytes 1 (full .steps) (ss .1)
+  _ ← need (leb kc (l .steps)) 19 (ss .1)
+  ks ← items (step bytes) 12 (ss .1 + 2) kc
+  _ ← need (leb (length bytes) (ss .1 + 2 + 12 * kc)) 3 (ss .1 + 2 + 12 * kc)
+  found (record { task = t .0; actionSets = es .0; stateSets = ss .0; steps = ks })
+
+-- by document 01's limits
+unfoldable pub readFile : List ℕ → Result File
+readFile bytes = readWithin full bytes

@@ -1,6 +1,7 @@
 pub mod Result
 pub mod Bytes
 pub mod File
+pub mod Limits
 pub mod Layout
 pub mod Writing
 pub mod Sets
@@ -14,6 +15,7 @@ pub mod Reply
 pub mod Numbering
 pub mod Question
 pub mod Rounds
+pub mod Small
 pub mod Cases
 pub mod Certain
 pub mod Points

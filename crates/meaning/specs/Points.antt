@@ -3,10 +3,10 @@
 use mathlib.Core.Path.{_≡_}
 use mathlib.Core.Logic.{_↔_, _⊎_}
 use mathlib.Core.Bool.{not, _&&_}
-use mathlib.Core.Option.{none}
+use mathlib.Core.Option.{none, some}
 use Prim.Native.Nat.{ℕ, zero, suc, _+_, _-_, _*_, _≤_, _<_}
 use mathlib.Core.List.{List, [], _∷_, _++_, map}
-use lib.ListN.{length, take, drop, replicate}
+use lib.ListN.{length, take, drop, replicate, getElem?}
 use lib.Dec.{T, leb}
 use Rattle.task.specs.Task.{Task}
 use Rattle.task.specs.Reach.{member, every, Safe, Unsolvable, Dead, Reachable, AtMostReachable}
@@ -14,7 +14,9 @@ use Rattle.task.specs.System.{System, States, Actions}
 use Rattle.meaning.specs.Result.{found}
 use Rattle.meaning.specs.Bytes.{AreBytes}
 use Rattle.meaning.specs.File.{File, stepAt}
-use Rattle.meaning.specs.Layout.{readFile}
+use Rattle.meaning.specs.declared.Limits.{Limits}
+use Rattle.meaning.specs.Limits.{full, small}
+use Rattle.meaning.specs.Layout.{readWithin, readFile}
 use Rattle.meaning.specs.Writing.{All, Ascending, fileOf, writeFile, Fits, Lawful}
 use Rattle.meaning.specs.Sets.{inSet, statesWithin, actionsWithin}
 use Rattle.meaning.specs.Rules.{letter, rules}
@@ -30,7 +32,8 @@ use Rattle.meaning.specs.Numbering.{checkNumbers, ruleNumbers, rewritten
 use Rattle.meaning.specs.Question.{depth, hasProgression, shallow, answerOf}
 use Rattle.meaning.specs.Rounds.{lawfulCount, roundOf, runFrom, run, atEnd, roundsFor, Call, session, countsOf, answersOf}
 use Rattle.meaning.specs.Rounds.{premisesOf, namedSets}
-use Rattle.meaning.specs.Cases.{Case, cases, sample, fileBytes, explicit012, stepBytes, firstSteps, allSteps}
+use Rattle.meaning.specs.Small.{replyWithin, replySmall, breaches, Before}
+use Rattle.meaning.specs.Cases.{Case, cases, word, sample, fileBytes, explicit012, stepBytes, firstSteps, allSteps}
 use Rattle.meaning.specs.Certain.{certificateOf}
 
 -- The sample has 234 bytes, and each of the twelve cases has its reply.
@@ -61,29 +64,38 @@ JudgementsTrue =
 abbrev pub AcceptedIsSafe : Type 0
 AcceptedIsSafe = (bytes : List ℕ) → replyOf bytes ≡ Accepted → (f : File) × (readFile bytes ≡ found f) × Safe (f .task)
 
--- Point 3, second half: of a lawful table with at most 4,096 states within reach,
+-- By a check, of a lawful table with at most so many states within reach,
 -- some certificate is accepted exactly when no list of its actions leads from the start to a forbidden state.
+abbrev pub Certifies : (List ℕ → Reply) → ℕ → Type 0
+Certifies check states =
+    (table : List ℕ) (t : Task) → Lawful table t → AtMostReachable states t
+    → ((certificate : List ℕ) × AreBytes certificate × (check (fileOf table certificate) ≡ Accepted)) ↔ Unsolvable t
+
+-- Point 3, second half.
 abbrev pub SafeIsAccepted : Type 0
-SafeIsAccepted =
-    (table : List ℕ) (t : Task) → Lawful table t → AtMostReachable 4096 t
-    → ((certificate : List ℕ) × AreBytes certificate × (replyOf (fileOf table certificate) ≡ Accepted)) ↔ Unsolvable t
+SafeIsAccepted = Certifies replyOf 4096
 
 -- That certificate is the sample's with the states within reach, ascending, as its explicit set.
-abbrev pub CertainCertificate : Type 0
-CertainCertificate =
+abbrev pub CertifiesByList : (List ℕ → Reply) → ℕ → Type 0
+CertifiesByList check states =
     (table : List ℕ) (t : Task) (ss : List ℕ) → Lawful table t → Unsolvable t
-    → Ascending 0 ss → length ss ≤ 4096 → ((s : ℕ) → T (member s ss) ↔ Reachable t s)
-    → AreBytes (certificateOf ss) × (replyOf (fileOf table (certificateOf ss)) ≡ Accepted)
+    → Ascending 0 ss → length ss ≤ states → ((s : ℕ) → T (member s ss) ↔ Reachable t s)
+    → AreBytes (certificateOf ss) × (check (fileOf table (certificateOf ss)) ≡ Accepted)
+
+abbrev pub CertainCertificate : Type 0
+CertainCertificate = CertifiesByList replyOf 4096
 
 abbrev pub SampleForm : Type 0
 SampleForm = fileOf (take 68 (drop 4 sample)) (certificateOf (0 ∷ 1 ∷ 2 ∷ [])) ≡ sample
 
--- What is read is within document 01's limits, and reading what was written within them gives it back.
+-- What is read is within the limits, and reading what was written within them gives it back.
 abbrev pub ReadsWithin : Type 0
-ReadsWithin = (bytes : List ℕ) (f : File) → AreBytes bytes → readFile bytes ≡ found f → Fits f
+ReadsWithin = (l : Limits) (bytes : List ℕ) (f : File) → AreBytes bytes → readWithin l bytes ≡ found f → Fits l f
 
 abbrev pub ReadsBack : Type 0
-ReadsBack = (f : File) → Fits f → length (writeFile f) ≤ 65536 → readFile (writeFile f) ≡ found f
+ReadsBack =
+    (l : Limits) (f : File) → Fits l f → length (writeFile f) ≤ full .size → length (writeFile f) ≤ l .size
+    → readWithin l (writeFile f) ≡ found f
 
 -- A file has no other bytes than those that are written of what is read.
 abbrev pub WritesBack : Type 0
@@ -243,3 +255,65 @@ abbrev pub RoundRefusals : Type 0
 RoundRefusals =
     (bytes : List ℕ) (from count r p : ℕ) → roundOf bytes from count ≡ round.Refused r p
     → ((1 ≤ r) × (r ≤ 12)) ⊎ ((r ≡ 17) × (p ≡ 0))
+
+-- ---- document 02, l: the same check with smaller limits
+
+-- With document 01's limits it is the check itself, and 19 does not come.
+abbrev pub FullLimits : Type 0
+FullLimits = (bytes : List ℕ) → (replyWithin full bytes ≡ replyOf bytes) × ((p : ℕ) → replyWithin full bytes ≡ Refused 19 p → ⊥)
+
+-- Whatever the limits are: the reply is that of the check, or 19,
+abbrev pub RepliesAlike : Type 0
+RepliesAlike =
+    (l : Limits) (bytes : List ℕ) → (replyWithin l bytes ≡ replyOf bytes) ⊎ ((p : ℕ) × (replyWithin l bytes ≡ Refused 19 p))
+
+-- and it is 19 at the first breach in the written order exactly when this comes before what the check refuses, if anything.
+abbrev pub FirstBreach : Type 0
+FirstBreach =
+    (l : Limits) (bytes : List ℕ) (p : ℕ)
+    → replyWithin l bytes ≡ Refused 19 p ↔ (getElem? (breaches bytes l) 0 ≡ some p) × Before p (replyOf bytes)
+
+-- What the small check accepts the check accepts, and it is safe.
+abbrev pub SmallIsAccepted : Type 0
+SmallIsAccepted = (bytes : List ℕ) → replySmall bytes ≡ Accepted → replyOf bytes ≡ Accepted
+
+abbrev pub SmallIsSafe : Type 0
+SmallIsSafe = (bytes : List ℕ) → replySmall bytes ≡ Accepted → (f : File) × (readFile bytes ≡ found f) × Safe (f .task)
+
+-- A table's bytes and the certain certificate make a file of this length; with 512 states, and 256 actions in a table of version 1
+-- (20 bytes and 24 for each action) or of a later one (36 and 32), it is within the small limits.
+abbrev pub CertainLength : Type 0
+CertainLength =
+    ((table ss : List ℕ) → length (fileOf table (certificateOf ss)) ≡ length table + 8 * length ss + 142)
+    × (20 + 24 * 256 + 8 * small .states + 142 ≡ 10402)
+    × (36 + 32 * 256 + 8 * small .states + 142 ≡ 12466)
+    × (12466 ≤ small .size)
+
+-- So the small check has both halves of point 3 up to 512 states within reach.
+abbrev pub SmallSafeIsAccepted : Type 0
+SmallSafeIsAccepted = Certifies replySmall 512
+
+abbrev pub SmallCertainCertificate : Type 0
+SmallCertainCertificate = CertifiesByList replySmall 512
+
+-- The sample has 234 bytes, an explicit set of 3 states at 88 and, at 136, a count of 8 steps. Each limit met, and broken by one;
+-- the size before the states, and these before the steps; 1 before the size, and that before the version; a fault in front of a breach
+-- before it, and one behind it, in a state of the set, after it.
+abbrev pub LimitCases : Type 0
+LimitCases =
+    (replyWithin (record { size = 234; states = 3; steps = 8 }) sample ≡ Accepted)
+    × (replyWithin (record { size = 233; states = 3; steps = 8 }) sample ≡ Refused 19 0)
+    × (replyWithin (record { size = 234; states = 2; steps = 8 }) sample ≡ Refused 19 88)
+    × (replyWithin (record { size = 234; states = 3; steps = 7 }) sample ≡ Refused 19 136)
+    × (replyWithin (record { size = 233; states = 2; steps = 7 }) sample ≡ Refused 19 0)
+    × (replyWithin (record { size = 234; states = 2; steps = 7 }) sample ≡ Refused 19 88)
+    × (replyWithin (record { size = 233; states = 3; steps = 8 }) (sample ++ 0 ∷ []) ≡ Refused 1 0)
+    × (replyWithin (record { size = 233; states = 3; steps = 8 }) (fileBytes 0 2 0 explicit012 3 0 allSteps) ≡ Refused 19 0)
+    × (replyWithin (record { size = 234; states = 2; steps = 8 }) (fileBytes 1 1 0 explicit012 3 0 allSteps) ≡ Refused 5 14)
+    × (replyWithin (record { size = 234; states = 2; steps = 8 }) (fileBytes 1 2 0 (0 ∷ 25 ∷ 3 ∷ word 4 ++ word 1 ++ word 2) 3 0 allSteps)
+    ≡ Refused 19 88)
+    × (breaches sample (record { size = 233; states = 2; steps = 7 }) ≡ 0 ∷ 88 ∷ 136 ∷ [])
+
+-- A refusal is one of a file, or 19.
+abbrev pub LimitRefusals : Type 0
+LimitRefusals = (l : Limits) (bytes : List ℕ) (r p : ℕ) → replyWithin l bytes ≡ Refused r p → ((1 ≤ r) × (r ≤ 12)) ⊎ (r ≡ 19)

@@ -12,6 +12,8 @@ use Rattle.meaning.specs.declared.Clause.{Clause}
 use Rattle.meaning.specs.Result.{found}
 use Rattle.meaning.specs.Bytes.{bytesOf}
 use Rattle.meaning.specs.File.{ActionSet, all, listed, either, Basic, empty, init, goal, explicit, horn, twoCnf, StateSet, basic, complement, intersection, union, progression, regression, Step, File, actionKind, stateKind}
+use Rattle.meaning.specs.declared.Limits.{Limits}
+use Rattle.meaning.specs.Limits.{full}
 use Rattle.meaning.specs.Layout.{hornRule, twoCnfRule, readTask}
 
 -- ---- the bytes
@@ -125,7 +127,7 @@ abbrev pub FitsBasic : ℕ → Basic → Type 0
 FitsBasic n empty = Unit {0}
 FitsBasic n init = Unit {0}
 FitsBasic n goal = Unit {0}
-FitsBasic n (explicit ss) = (length ss ≤ 4096) × Ascending 0 ss × All (λ s. s < 2 ^ n) ss
+FitsBasic n (explicit ss) = (length ss ≤ full .states) × Ascending 0 ss × All (λ s. s < 2 ^ n) ss
 FitsBasic n (horn cs) = FitsClauses n hornRule cs
 FitsBasic n (twoCnf cs) = FitsClauses n twoCnfRule cs
 
@@ -153,13 +155,33 @@ pub record FitsCertificate (t : Task) (es : List ActionSet) (ss : List StateSet)
   pub few-state-sets : length ss ≤ 512
   pub state-sets : AllFrom (FitsStateSet (t .facts) (length es)) 0 ss
   pub some-steps : 1 ≤ length ks
-  pub few-steps : length ks ≤ 2048
+  pub few-steps : length ks ≤ full .steps
   pub steps : All FitsStep ks
 
--- everything within the format's limits but the length of the whole
-pub record Fits (f : File) : Type 0 where
+-- how many states a set lists
+unfoldable pub listedStates : StateSet → ℕ
+listedStates (basic empty) = 0
+listedStates (basic init) = 0
+listedStates (basic goal) = 0
+listedStates (basic (explicit ss)) = length ss
+listedStates (basic (horn cs)) = 0
+listedStates (basic (twoCnf cs)) = 0
+listedStates (complement a) = 0
+listedStates (intersection a b) = 0
+listedStates (union a b) = 0
+listedStates (progression a e) = 0
+listedStates (regression a e) = 0
+
+-- state sets and steps that a check's limits allow
+pub record Allowed (l : Limits) (ss : List StateSet) (ks : List Step) : Type 0 where
+  pub states : All (λ x. listedStates x ≤ l .states) ss
+  pub steps : length ks ≤ l .steps
+
+-- everything within the format's and a check's limits but the length of the whole
+pub record Fits (l : Limits) (f : File) : Type 0 where
   pub task : FitsTask (f .task)
   pub certificate : FitsCertificate (f .task) (f .actionSets) (f .stateSets) (f .steps)
+  pub allowed : Allowed l (f .stateSets) (f .steps)
 
 -- the bytes are those of a task, whole, in which 2 to 7 find no fault. Document 01: a lawful table
 abbrev pub Lawful : List ℕ → Task → Type 0

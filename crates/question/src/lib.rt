@@ -5,6 +5,7 @@ use certificate::Places;
 use certificate::StateEntry;
 use certificate::views::index_of;
 use holding::member;
+use layout::full_limits;
 use layout::read_layout;
 use lookup::state_set;
 use meaning::Answer;
@@ -73,7 +74,7 @@ pub fn ask(file: &[u8], entry: u64, state: u64) -> Answer
     ensures answer { λ r. ⌜ r ≡ answerOf (now (file .entry)) entry state ⌝ }
     ensures untouched { λ r. ⌜ now (file .exit) ≡ now (file .entry) ⌝ }
 {
-    match read_layout(file) {
+    match read_layout(file, full_limits()) {
         Outline::Refused { number, place } => Answer::Refused { number, place },
         Outline::Lawful(at) => {
             let index = index_of(file, at);

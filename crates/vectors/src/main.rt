@@ -1,7 +1,7 @@
 // Reads cases on standard input, one record each, and prints a reply a line: what the other checker replied is compared with it.
 // A record is its kind (1 byte), entry (8), state (8), the file's length (4) and the file. Kind 0 is a file to check, 1 a question, 2 a
 // file with a list of rule numbers: the list's length stands in the entry's place, and the list before the file; 3 is a round, with the
-// step that it begins at in the entry's place and the count of its steps in the state's.
+// step that it begins at in the entry's place and the count of its steps in the state's; 4 is a file to check with smaller limits.
 use bytes::u32_at;
 use bytes::u64_at;
 use input::read_part;
@@ -14,6 +14,7 @@ use question::ask;
 use verifier::check;
 use verifier::check_numbered;
 use verifier::check_round;
+use verifier::check_small;
 
 // Replies to a case.
 fn reply(kind: u8, entry: u64, state: u64, numbers: &[u8], file: &[u8]) {
@@ -23,8 +24,10 @@ fn reply(kind: u8, entry: u64, state: u64, numbers: &[u8], file: &[u8]) {
         print_answer(ask(file, entry, state));
     } else if kind == 2 {
         print_reply(check_numbered(file, numbers));
-    } else {
+    } else if kind == 3 {
         print_round(STDOUT_FILENO, check_round(file, entry, state));
+    } else {
+        print_reply(check_small(file));
     }
 }
 

@@ -11,7 +11,9 @@ use lib.Dec.{T, ltb, ltb→lt}
 use borrow.Author.Tests.{not-true, not-false}
 use Rattle.meaning.specs.Result.{Result, refuse, found, _>>=_, need}
 use Rattle.meaning.specs.File.{File}
-use Rattle.meaning.specs.Layout.{readFile}
+use Rattle.meaning.specs.declared.Limits.{Limits}
+use Rattle.meaning.specs.Limits.{full, small}
+use Rattle.meaning.specs.Layout.{readWithin, readFile}
 use Rattle.meaning.specs.declared.Reply.{Reply}
 use Rattle.meaning.specs.declared.Reply.the-variants.{Accepted, Refused}
 use Rattle.meaning.specs.declared.Round.the-variants as round
@@ -23,24 +25,35 @@ use Rattle.meaning.proofs.RuleBytes.{rewritten-same}
 use Rattle.meaning.proofs.Rounds.{between, at-last}
 use Rattle.task.proofs.Tests.{holds}
 use Rattle.certificate.specs.Known.{decoded}
+use Rattle.meaning.specs.Small.{replyWithin, replySmall}
+use Rattle.verifier.specs.Check.{replyBy}
 use Rattle.verifier.specs.Round.{orElse}
 
 -- ---- the reply to the bytes
 
-module _ (g : ℕ → ℕ) (bytes : List ℕ) where
-  pub read-reply : readFile bytes ≡ found (decoded bytes)
-      → replyTo (checkFrom (rewritten g (decoded bytes)) 0) ≡ replyTo (checkRewritten g bytes)
-  unfolding checkRewritten checkFile _>>=_
+module _ (l : Limits) (g : ℕ → ℕ) (bytes : List ℕ) where
+  pub read-reply : readWithin l bytes ≡ found (decoded bytes) → replyTo (checkFrom (rewritten g (decoded bytes)) 0) ≡ replyBy l g bytes
+  unfolding replyBy checkFile _>>=_
   read-reply h = rw h refl
 
-  pub unread-reply : (r p : ℕ) → readFile bytes ≡ refuse r p → Refused r p ≡ replyTo (checkRewritten g bytes)
-  unfolding checkRewritten replyTo _>>=_
+  pub unread-reply : (r p : ℕ) → readWithin l bytes ≡ refuse r p → Refused r p ≡ replyBy l g bytes
+  unfolding replyBy replyTo _>>=_
   unread-reply r p h = rw h refl
 
 -- where each byte stands for itself
-pub plain-reply : (bytes : List ℕ) → replyTo (checkRewritten (λ x. x) bytes) ≡ replyOf bytes
-unfolding checkRewritten replyOf
-plain-reply bytes = ap replyTo (bind-same refl (λ f. ap checkFile (rewritten-same f (λ x. x) (λ x. refl))))
+own-reply : (l : Limits) (bytes : List ℕ) → replyBy l (λ x. x) bytes ≡ replyWithin l bytes
+unfolding replyBy replyWithin
+own-reply l bytes = ap replyTo (bind-same refl (λ f. ap checkFile (rewritten-same f (λ x. x) (λ x. refl))))
+
+-- with document 01's limits, and with the small ones
+module _ {l : Limits} (bytes : List ℕ) where
+  pub plain-reply : l ≡ full → replyBy l (λ x. x) bytes ≡ replyOf bytes
+  unfolding replyWithin replyOf readFile
+  plain-reply e = own-reply l bytes ∙ ap (λ (k : Limits). replyWithin k bytes) e
+
+  pub small-reply : l ≡ small → replyBy l (λ x. x) bytes ≡ replySmall bytes
+  unfolding replySmall
+  small-reply e = own-reply l bytes ∙ ap (λ (k : Limits). replyWithin k bytes) e
 
 -- by a list
 module _ (bytes numbers : List ℕ) where
@@ -48,9 +61,10 @@ module _ (bytes numbers : List ℕ) where
   unfolding replyNumbered replyTo _>>=_
   list-reply p h = rw h refl
 
-  pub numbered-reply : checkNumbers numbers ≡ found tt → replyTo (checkRewritten (ruleMeant numbers) bytes) ≡ replyNumbered bytes numbers
-  unfolding replyNumbered _>>=_
-  numbered-reply h = rw h refl
+  pub numbered-reply : {l : Limits} → l ≡ full → checkNumbers numbers ≡ found tt
+      → replyBy l (ruleMeant numbers) bytes ≡ replyNumbered bytes numbers
+  unfolding replyNumbered checkRewritten readFile replyBy _>>=_
+  numbered-reply e h = rw (e, h) refl
 
 -- ---- a round
 

@@ -1,9 +1,12 @@
-// The checker of a file, whole by document 01's rule numbers or a caller's own, and in rounds.
+// The checker of a file: whole by document 01's rule numbers or a caller's own, whole with smaller limits, and in rounds.
 use certificate::Index;
 use certificate::Outline;
 use certificate::Places;
 use certificate::views::index_of;
+use layout::full_limits;
 use layout::read_layout;
+use layout::small_limits;
+use meaning::Limits;
 use meaning::Reply;
 use meaning::Round;
 use numbering::ListReply;
@@ -21,18 +24,20 @@ ghost use Rattle.meaning.specs.Result.{found};
 ghost use Rattle.meaning.specs.File.{File};
 ghost use Rattle.meaning.specs.Layout.{readFile};
 ghost use Rattle.meaning.specs.declared.Reply.the-variants.{Accepted};
-ghost use Rattle.meaning.specs.Reply.{replyTo, replyOf};
-ghost use Rattle.meaning.specs.Numbering.{checkRewritten, replyNumbered};
+ghost use Rattle.meaning.specs.Reply.{replyOf};
+ghost use Rattle.meaning.specs.Numbering.{replyNumbered};
 ghost use Rattle.meaning.specs.Rounds.{lawfulCount, roundOf};
+ghost use Rattle.meaning.specs.Small.{replySmall};
 ghost use Rattle.certificate.specs.Known.{Placed, Known};
 ghost use Rattle.numbering.specs.Table.{Stands};
+ghost use Rattle.verifier.specs.Check.{replyBy};
 ghost use Rattle.verifier.specs.Round.{orElse};
 
-// The reply to a file whose rule bytes stand for the rules of a table.
-fn check_by(file: &[u8], rules: &RuleTable) -> Reply
-    ensures { λ r. ⌜ ((g : ℕ → ℕ) → Stands (now (rules .entry)) g → r ≡ replyTo (checkRewritten g (now (file .entry)))) ⌝ }
+// The reply with a check's limits to a file whose rule bytes stand for the rules of a table.
+fn check_by(file: &[u8], limits: Limits, rules: &RuleTable) -> Reply
+    ensures { λ r. ⌜ ((g : ℕ → ℕ) → Stands (now (rules .entry)) g → r ≡ replyBy limits g (now (file .entry))) ⌝ }
 {
-    match read_layout(file) {
+    match read_layout(file, limits) {
         Outline::Refused { number, place } => {
             let place = place as u64;
             Reply::Refused { number, place }
@@ -51,7 +56,17 @@ pub fn check(file: &[u8]) -> Reply
     ensures safe { λ r. ⌜ (r ≡ Accepted → (f : File) × (readFile (now (file .entry)) ≡ found f) × Safe (f .task)) ⌝ }
 {
     let rules = own_numbers();
-    check_by(file, &rules)
+    check_by(file, full_limits(), &rules)
+}
+
+// The same with smaller limits: 19 where the file breaks one of them, and else the reply of `check`.
+pub fn check_small(file: &[u8]) -> Reply
+    ensures reply { λ r. ⌜ r ≡ replySmall (now (file .entry)) ⌝ }
+    ensures untouched { λ r. ⌜ now (file .exit) ≡ now (file .entry) ⌝ }
+    ensures safe { λ r. ⌜ (r ≡ Accepted → (f : File) × (readFile (now (file .entry)) ≡ found f) × Safe (f .task)) ⌝ }
+{
+    let rules = own_numbers();
+    check_by(file, small_limits(), &rules)
 }
 
 // The same for a file whose steps have the rule numbers of a caller's list, the k-th of which stands for rule k. The list's own faults
@@ -69,7 +84,7 @@ pub fn check_numbered(file: &[u8], numbers: &[u8]) -> Reply
             let number = 18;
             Reply::Refused { number, place }
         }
-        ListReply::Lawful => check_by(file, &list.rules),
+        ListReply::Lawful => check_by(file, full_limits(), &list.rules),
     }
 }
 
@@ -119,7 +134,7 @@ pub fn check_round(file: &[u8], from: u64, count: u64) -> Round
     ensures round { λ r. ⌜ r ≡ roundOf (now (file .entry)) from count ⌝ }
     ensures untouched { λ r. ⌜ now (file .exit) ≡ now (file .entry) ⌝ }
 {
-    match read_layout(file) {
+    match read_layout(file, full_limits()) {
         Outline::Refused { number, place } => {
             let place = place as u64;
             Round::Refused { number, place }

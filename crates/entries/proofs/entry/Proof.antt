@@ -1,11 +1,12 @@
 -- `entries::entry` meets its contract.
 -- Assumes nothing.
-use Prim.Native.Nat.{ℕ, _+_, _-_}
+use Prim.Native.Nat.{ℕ, _+_, _-_, _≤_}
 use native.Mathlib.Omega.{arith}
+use lib.ListN.{length}
 use Rattle.entries.specs.Forms.{formsOf}
 use Rattle.entries.proofs.FormLaws.{section-alike}
 use Rattle.entries.proofs.EntryChecks.{Begun, begun, Kinded, kinded, entry-cut, entry-past, entry-ends, entry-none, entry-unknown}
-use Rattle.entries.proofs.EntryChecks.{entry-unfit, entry-part, entry-body}
+use Rattle.entries.proofs.EntryChecks.{entry-unfit, entry-over, entry-part, entry-body}
 use borrow.Author.Needs.{needs}
 use Rattle.entries.proofs.entry.Statement.{statement}
 use Rattle.entries.proofs.entry.Tie as tie
@@ -67,22 +68,38 @@ returns-5 c =
     entry-unfit (a .file .now) (a .s .facts) _ _ (section-alike (a .file .now) (a .s) (a .i)) (a .place) (lies e)
     (kind (c .before .before)) (c .before .fits2 .ensures) (c .if5 .taken)
 
-body-requires : tie.Need-body-requires
-body-requires c κs =
-    let e = c .before .before .before .before .before .before .before in
-    let a = start e .args in
-    entry-part (a .file .now) (a .s .facts) _ _ (section-alike (a .file .now) (a .s) (a .i)) (a .place) (lies e)
-    (kind (c .before .before .before))
-    (c .before .before .fits2 .ensures) (c .before .if5 .left) (a .place + 2 + len e - (a .place + 3)) 65536 (omega arith) (search needs)
-
 returns-6 : tie.Need-returns-6
 returns-6 c =
-    let e = c .before .before .before .before .before .before .before .before in
+    let k = c .before .before .before .before in
+    let e = k .before .before .before .before in
     let a = start e .args in
-    entry-body (a .file .now) (a .s .facts) _ _ (section-alike (a .file .now) (a .s) (a .i)) (a .place) (lies e)
-    (kind (c .before .before .before .before))
-    (c .before .before .before .fits2 .ensures) (c .before .before .if5 .left) (a .place + 2 + len e - (a .place + 3)) (omega arith)
-    (c .body .ensures)
+    entry-over (a .file .now) (a .s .facts) _ _ (section-alike (a .file .now) (a .s) (a .i)) (a .place) (lies e)
+    (kind k) (c .before .before .before .fits2 .ensures) (c .before .allows .ensures) (c .before .before .if5 .left) (c .if6 .taken)
+
+body-requires : tie.Need-body-requires
+body-requires c κs =
+    let k = c .before .before .before .before .before in
+    let e = k .before .before .before .before in
+    let a = start e .args in
+    entry-part (a .file .now) (a .s .facts) _ _ (section-alike (a .file .now) (a .s) (a .i)) (a .place) (lies e) (kind k)
+    (c .before .before .before .before .fits2 .ensures) (c .before .before .before .if5 .left)
+    (a .place + 2 + len e - (a .place + 3)) 65536 (omega arith) (search needs)
+
+returns-7 : tie.Need-returns-7
+returns-7 c =
+    let k = c .before .before .before .before .before .before in
+    let e = k .before .before .before .before in
+    let a = start e .args in
+    entry-body (a .file .now) (a .s .facts) _ _ (section-alike (a .file .now) (a .s) (a .i)) (a .place) (lies e) (kind k)
+    (c .before .before .before .before .before .fits2 .ensures) (c .before .before .before .allows .ensures)
+    (c .before .before .before .before .if5 .left) (c .before .before .if6 .left)
+    (a .place + 2 + len e - (a .place + 3)) (omega arith) (c .body .ensures)
+
+-- where the entry ends
+ends : (c : tie.Else6) → start (c .before .before .before .before .before .before .before .before) .args .place
+    + (2 + len (c .before .before .before .before .before .before .before .before))
+    ≤ length (start (c .before .before .before .before .before .before .before .before) .args .file .now)
+ends c = entry-ends (lies (c .before .before .before .before .before .before .before .before))
 
 pub entry-spec : {M : Type 1} → statement M
 entry-spec =
@@ -97,17 +114,19 @@ entry-spec =
     returns-2
     returns-3
     (λ c κs. search needs)
+    (λ c. let h = entry-ends (lies (c .before .before)) in search needs)
     (λ c κs. search needs)
-    (λ c. let h = entry-ends (lies (c .before .before .before .before)) in search needs)
     returns-4
     (λ c κs. search needs)
     returns-5
+    (λ c κs. search needs)
+    returns-6
     (λ c. search needs)
     (λ c. search needs)
     (λ c. search needs)
     (λ c. search needs)
     (λ c. search needs)
-    (λ c. let h = entry-ends (lies (c .before .before .before .before .before .before)) in search needs)
-    (λ c. let h = entry-ends (lies (c .before .before .before .before .before .before .before)) in search needs)
+    (λ c. let h = ends c in search needs)
+    (λ c. let h = ends (c .before) in search needs)
     body-requires
-    returns-6)
+    returns-7)

@@ -12,7 +12,7 @@ use Rattle.entries.proofs.state_form.Tie as tie
 returns-12 : tie.Need-returns-12
 returns-12 c =
     let r = c .match .rest in
-    sym (List·getD-eq-default (stateForms (c .before .args .others) (c .before .args .i)) Unknown
+    sym (List·getD-eq-default (stateForms (c .before .args .most) (c .before .args .others) (c .before .args .i)) Unknown
     (next 10 (next 9 (next 8 (next 7 (next 6 (next 5 (next 4 (next 3
     (next 2 (next 1 (next 0 zero-le (r .0 .0 .0 .0 .0 .0 .0 .0 .0 .0 .1)) (r .0 .0 .0 .0 .0 .0 .0 .0 .0 .1))
     (r .0 .0 .0 .0 .0 .0 .0 .0 .1)) (r .0 .0 .0 .0 .0 .0 .0 .1)) (r .0 .0 .0 .0 .0 .0 .1)) (r .0 .0 .0 .0 .0 .1)) (r .0 .0 .0 .0 .1))

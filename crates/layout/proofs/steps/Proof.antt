@@ -3,7 +3,7 @@
 use Prim.Native.Nat.{_+_, _≤_}
 use lib.ListN.{length}
 use Rattle.layout.proofs.RowLaws.{steps-told}
-use Rattle.layout.proofs.SectionChecks.{count-ends, steps-none, steps-short, steps-more, steps-end}
+use Rattle.layout.proofs.SectionChecks.{step-count-ends, steps-none, steps-short, steps-more, steps-end}
 use borrow.Author.Needs.{needs}
 use Rattle.layout.proofs.steps.Statement.{statement}
 use Rattle.layout.proofs.steps.Tie as tie
@@ -11,14 +11,14 @@ use Rattle.layout.proofs.steps.Tie as tie
 returns : tie.Need-returns
 returns c =
     let a = c .before .before .before .before .before .args in
-    steps-none (a .file .now) (a .place) (c .before .v .given .1) (c .before .before .before .count .ensures)
+    steps-none (a .file .now) (a .most) (a .place) (c .before .v .given .1) (c .before .before .before .step-count .ensures)
 
 -- the count of steps is within the file
 ends : (c : tie.After-enum-told) → c .before .before .before .before .args .place + 2 ≤ length
     (c .before .before .before .before .args .file .now)
 ends c =
     let a = c .before .before .before .before .args in
-    count-ends (a .file .now) 1 2048 (a .place) (c .enum-told .given .1) (c .before .before .count .ensures)
+    step-count-ends (a .file .now) (a .most) (a .place) (c .enum-told .given .1) (c .before .before .step-count .ensures)
 
 returns-2 : tie.Need-returns-2
 returns-2 c =
@@ -26,7 +26,7 @@ returns-2 c =
     let w = t .before in
     let v = w .before .before in
     let a = v .before .before .before .before .args in
-    steps-short (a .file .now) (a .place) (v .enum-told .given .1) (v .before .before .count .ensures) (w .before .u16-at .ensures)
+    steps-short (a .file .now) (a .most) (a .place) (v .enum-told .given .1) (v .before .before .step-count .ensures) (w .before .u16-at .ensures)
     (steps-told (a .file .now) (w .before .u16-at .result) (a .place + 2) (t .told .ensures) (w .walk .ensures)) (c .before .w .given .1)
 
 returns-3 : tie.Need-returns-3
@@ -35,7 +35,7 @@ returns-3 c =
     let w = t .before in
     let v = w .before .before in
     let a = v .before .before .before .before .args in
-    steps-more (a .file .now) (a .place) (v .enum-told .given .1) (v .before .before .count .ensures) (w .before .u16-at .ensures)
+    steps-more (a .file .now) (a .most) (a .place) (v .enum-told .given .1) (v .before .before .step-count .ensures) (w .before .u16-at .ensures)
     (steps-told (a .file .now) (w .before .u16-at .result) (a .place + 2) (t .told .ensures) (w .walk .ensures))
     (c .before .before .w2 .given .1) (search needs)
 
@@ -45,7 +45,7 @@ returns-4 c =
     let w = t .before in
     let v = w .before .before in
     let a = v .before .before .before .before .args in
-    steps-end (a .file .now) (a .place) (v .enum-told .given .1) (v .before .before .count .ensures) (w .before .u16-at .ensures)
+    steps-end (a .file .now) (a .most) (a .place) (v .enum-told .given .1) (v .before .before .step-count .ensures) (w .before .u16-at .ensures)
     (steps-told (a .file .now) (w .before .u16-at .result) (a .place + 2) (t .told .ensures) (w .walk .ensures))
     (c .before .before .w2 .given .1) (search needs)
 

@@ -3,14 +3,14 @@
 use mathlib.Core.Path.{_∙_, refl}
 use borrow.Author.Needs.{needs}
 use Rattle.certificate.specs.Known.{Placed}
-use Rattle.certificate.proofs.OutlineKnown.{lawful-placed, refused-read}
+use Rattle.certificate.proofs.OutlineKnown.{lawful-placed, refused-full}
 use Rattle.question.proofs.AskableLaws.{read-answer, unread-answer}
 use Rattle.question.proofs.ask.Statement.{statement}
 use Rattle.question.proofs.ask.Tie as tie
 
 -- where the file is lawful, these are its places
-placed : (c : tie.After-known-told2) → Placed (c .before .before .before .before .before .args .file .now) (c .before .at .given .0 .0)
-placed c = lawful-placed _ (c .before .before .before .read-layout .ensures) _ (c .before .at .given .1)
+placed : (c : tie.After-known-told2) → Placed (c .before .before .before .before .before .before .args .file .now) (c .before .at .given .0 .0)
+placed c = lawful-placed _ _ (c .before .before .before .read-layout .ensures) _ (c .before .at .given .1)
 
 answer-requires : tie.Need-answer-requires
 answer-requires c κs = let v = c .before in (placed (v .before), v .index-of .ensures)
@@ -18,7 +18,7 @@ answer-requires c κs = let v = c .before in (placed (v .before), v .index-of .e
 returns : tie.Need-returns
 returns c =
     let v = c .before .before .before in
-    (unread-answer _ _ _ _ _ (refused-read _ (v .read-layout .ensures) _ _ (c .before .number .given .1)), refl)
+    (unread-answer _ _ _ _ _ (refused-full _ _ (v .read-layout .ensures) (v .before .full-limits .ensures) _ _ (c .before .number .given .1)), refl)
 
 returns-2 : tie.Need-returns-2
 returns-2 c = (c .answer .ensures ∙ read-answer _ _ _ _ (placed (c .before .before .before) .read), refl)
@@ -27,6 +27,7 @@ pub ask-spec : {M : Type 1} → statement M
 ask-spec =
     tie.close
     (tie.spec
+    (λ c κs. search needs)
     (λ c κs. search needs)
     (λ c. search needs)
     (λ c. search needs)

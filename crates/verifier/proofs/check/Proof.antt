@@ -9,8 +9,9 @@ use Rattle.verifier.proofs.check.Tie as tie
 
 returns : tie.Need-returns
 returns c =
-    let e = c .check-by .ensures (λ x. x) (c .before .before .own-numbers .ensures) ∙ plain-reply _ in
+    let e = c .check-by .ensures (λ x. x) (c .before .before .before .own-numbers .ensures)
+    ∙ plain-reply _ (c .before .before .full-limits .ensures) in
     (e, (refl, λ y. accepted-is-safe _ (sym e ∙ y)))
 
 pub check-spec : {M : Type 1} → statement M
-check-spec = tie.close (tie.spec (λ c κs. search needs) (λ c κs. search needs) returns)
+check-spec = tie.close (tie.spec (λ c κs. search needs) (λ c κs. search needs) (λ c κs. search needs) returns)

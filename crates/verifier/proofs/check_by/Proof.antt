@@ -2,29 +2,29 @@
 -- Assumes nothing.
 use mathlib.Core.Path.{_∙_}
 use borrow.Author.Needs.{needs}
-use Rattle.certificate.proofs.OutlineKnown.{lawful-placed, refused-read}
+use Rattle.certificate.proofs.OutlineKnown.{lawful-placed, lawful-read, refused-read}
 use Rattle.steps.proofs.StepsLaws.{step-count}
 use Rattle.verifier.proofs.CheckLaws.{read-reply, unread-reply}
 use Rattle.verifier.proofs.check_by.Statement.{statement}
 use Rattle.verifier.proofs.check_by.Tie as tie
 
 index-of-requires : tie.Need-index-of-requires
-index-of-requires c κs = let a = c .before in lawful-placed _ (a .before .before .read-layout .ensures) _ (a .at .given .1)
+index-of-requires c κs = let a = c .before in lawful-placed _ _ (a .before .before .read-layout .ensures) _ (a .at .given .1)
 
 check-from-requires : tie.Need-check-from-requires
 check-from-requires c κs =
     let a = c .before .before .before in
-    let placed = lawful-placed _ (a .before .before .read-layout .ensures) _ (a .at .given .1) in
+    let placed = lawful-placed _ _ (a .before .before .read-layout .ensures) _ (a .at .given .1) in
     (placed, (c .before .index-of .ensures, step-count _ _ placed .0))
 
 returns : tie.Need-returns
 returns c g stands =
-    unread-reply g _ _ _ (refused-read _ (c .before .before .before .read-layout .ensures) _ _ (c .before .number .given .1))
+    unread-reply _ g _ _ _ (refused-read _ _ (c .before .before .before .read-layout .ensures) _ _ (c .before .number .given .1))
 
 returns-2 : tie.Need-returns-2
 returns-2 c g stands =
-    let i = c .before .before in
-    c .check-from .ensures g stands ∙ read-reply g _ (i .index-of .ensures .read)
+    let a = c .before .before .before .before in
+    c .check-from .ensures g stands ∙ read-reply _ g _ (lawful-read _ _ (a .before .before .read-layout .ensures) _ (a .at .given .1))
 
 pub check-by-spec : {M : Type 1} → statement M
 check-by-spec =

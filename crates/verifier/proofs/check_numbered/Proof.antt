@@ -18,12 +18,14 @@ returns c =
 
 returns-2 : tie.Need-returns-2
 returns-2 c =
-    let a = c .before .before .before in
+    let limits = c .before .before .before in
+    let a = limits .before in
     let list = a .before .before .numbering-of .ensures in
     let lawful = list-lawful _ (sym (a .enum-told .given .1) ∙ list .0) in
-    let e = c .check-by .ensures _ (list .1 lawful) ∙ numbered-reply _ _ lawful in
+    let e = c .check-by .ensures _ (list .1 lawful) ∙ numbered-reply _ _ (limits .full-limits .ensures) lawful in
     (e, (refl, (refl, λ y. numbered-is-safe _ _ (sym e ∙ y))))
 
 pub check-numbered-spec : {M : Type 1} → statement M
 check-numbered-spec =
-    tie.close (tie.spec (λ c κs. search needs) (λ c. search needs) (λ c. search needs) (λ c κs. search needs) returns returns-2)
+    tie.close (tie.spec
+    (λ c κs. search needs) (λ c. search needs) (λ c. search needs) (λ c κs. search needs) (λ c κs. search needs) returns returns-2)

@@ -1,0 +1,152 @@
+-- Where the parts of a file are refused: with 1 to 7, at a place within the part.
+-- Assumes nothing.
+use mathlib.Core.Path.{_≡_, refl, ap}
+use Prim.Native.Nat.{ℕ, zero, suc, _+_, _*_, _/_, _^_, _≤_}
+use native.Mathlib.Nat.{mul-suc, mul-div-le}
+use native.Mathlib.Omega.{arith}
+use mathlib.Core.Bool.{Bool, _&&_}
+use mathlib.Core.List.{List}
+use lib.Dec.{T, leb, ltb, leb→le, eqb→eq}
+use Rattle.meaning.specs.Result.{Result, found, _>>=_, need}
+use Rattle.meaning.specs.Bytes.{number}
+use Rattle.meaning.specs.declared.Clause.{Clause}
+use Rattle.meaning.specs.File.{Basic}
+use Rattle.meaning.specs.Layout.{items, ascending, field, count, mask, reference, action, clause, step, Kind, plain, one, two}
+use Rattle.meaning.specs.Layout.{clauses, readTask}
+use Rattle.meaning.proofs.Results.{and-out}
+use Rattle.meaning.proofs.Numbered.{Yields, given, Numbered, then-ok, need-ok}
+
+-- one of document 01's numbers for the layout, from place lo to place hi
+pub record Within (lo hi r q : ℕ) : Type 0 where
+  pub some : 1 ≤ r
+  pub few : r ≤ 7
+  pub low : lo ≤ q
+  pub high : q ≤ hi
+
+pub within : {lo hi : ℕ} (r q : ℕ) → T (leb 1 r && leb r 7) → lo ≤ q → q ≤ hi → Within lo hi r q
+within r q t l h =
+    let b = and-out (leb 1 r) (leb r 7) t in
+    record { some = leb→le 1 r (b .0); few = leb→le r 7 (b .1); low = l; high = h }
+
+-- where its item of `size` bytes is between two places, a reader is refused, if at all, between them
+abbrev pub Part : ℕ → ℕ → {A : Type 0} → ℕ → (ℕ → Result A) → Type 0
+Part lo hi size read = (p : ℕ) → lo ≤ p → p + size ≤ hi → Numbered (Within lo hi) (read p)
+
+module _ (lo hi : ℕ) where
+  pub need-within : (b : Bool) (r p : ℕ) → T (leb 1 r && leb r 7) → lo ≤ p → p ≤ hi → Yields (Within lo hi) (λ _. T b) (need b r p)
+  need-within b r p t l h = need-ok b r p (within r p t l h)
+
+  -- ---- items one after the other
+
+  pub items-in : {A : Type 0} (read : ℕ → Result A) (size : ℕ) → Part lo hi size read
+      → (k : ℕ) → Part lo hi (size * k) (λ p. items read size p k)
+  unfolding items
+  items-in read size h zero p l u = given tt
+  items-in read size h (suc k) p l u =
+      let e = mul-suc size k in
+      then-ok (h p l (omega arith)) (λ _ _. then-ok (items-in read size h k (p + size) (omega arith) (omega arith)) (λ _ _. given tt))
+
+  ascending-in : (read : ℕ → Result ℕ) (size : ℕ) → Part lo hi size read
+      → (k low : ℕ) → Part lo hi (size * k) (λ p. ascending read size low p k)
+  unfolding ascending
+  ascending-in read size h zero low p l u = given tt
+  ascending-in read size h (suc k) low p l u =
+      let e = mul-suc size k in
+      then-ok (h p l (omega arith)) (λ x _. then-ok (need-within _ 7 p tt l (omega arith)) (λ _ _.
+      then-ok (ascending-in read size h k (suc x) (p + size) (omega arith) (omega arith)) (λ _ _. given tt)))
+
+  -- ---- fields
+
+  module _ (bytes : List ℕ) where
+    pub field-in : (k p : ℕ) → lo ≤ p → p ≤ hi → Yields (Within lo hi) (λ x. x ≡ number k bytes p) (field bytes k p)
+    unfolding field
+    field-in k p l h = then-ok (need-within _ 3 p tt l h) (λ _ _. given refl)
+
+    pub count-in : (low high p : ℕ) → lo ≤ p → p ≤ hi
+        → Yields (Within lo hi) (λ c. (c ≡ number 2 bytes p) × (c ≤ high)) (count bytes low high p)
+    unfolding count
+    count-in low high p l h =
+        then-ok (field-in 2 p l h) (λ c e.
+        then-ok (need-within _ 4 p tt l h) (λ _ t. given (e, leb→le c high (and-out (leb low c) _ t .1))))
+
+    -- a number of k bytes that must be below a bound
+    bounded-in : (k bound r : ℕ) → T (leb 1 r && leb r 7)
+        → Part lo hi k (λ p. field bytes k p >>= λ x. need (ltb x bound) r p >>= λ _. found x)
+    bounded-in k bound r t p l h =
+        then-ok (field-in k p l (omega arith)) (λ x _. then-ok (need-within _ r p t l (omega arith)) (λ _ _. given tt))
+
+    pub mask-in : (n : ℕ) → Part lo hi 8 (mask bytes n)
+    unfolding mask
+    mask-in n = bounded-in 8 (2 ^ n) 5 tt
+
+    pub reference-in : (bound : ℕ) → Part lo hi 2 (reference bytes bound)
+    unfolding reference
+    reference-in bound = bounded-in 2 bound 6 tt
+
+    action-in : (n : ℕ) → Part lo hi 24 (action bytes n)
+    unfolding action
+    action-in n p l h =
+        then-ok (mask-in n p l (omega arith)) (λ _ _.
+        then-ok (mask-in n (p + 8) (omega arith) (omega arith)) (λ _ _.
+        then-ok (mask-in n (p + 16) (omega arith) (omega arith)) (λ _ _. given tt)))
+
+    clause-in : (n : ℕ) (rule : ℕ → ℕ → Bool) → Part lo hi 16 (clause bytes n rule)
+    unfolding clause
+    clause-in n rule p l h =
+        then-ok (mask-in n p l (omega arith)) (λ _ _.
+        then-ok (mask-in n (p + 8) (omega arith) (omega arith)) (λ _ _.
+        then-ok (need-within _ 7 p tt l (omega arith)) (λ _ _. given tt)))
+
+    pub step-in : Part lo hi 12 (step bytes)
+    unfolding step
+    step-in p l h = then-ok (need-within _ 3 p tt l (omega arith)) (λ _ _. given tt)
+
+    -- ---- the task
+
+    pub task-in : lo ≤ 4 → 24 + 24 * number 2 bytes 22 ≤ hi
+        → Yields (Within lo hi) (λ t. t .1 ≡ 24 + 24 * number 2 bytes 22) (readTask bytes)
+    unfolding readTask
+    task-in l h =
+        then-ok (field-in 1 4 l (omega arith)) (λ _ _.
+        then-ok (need-within _ 2 4 tt l (omega arith)) (λ _ _.
+        then-ok (field-in 1 5 (omega arith) (omega arith)) (λ n _.
+        then-ok (need-within _ 4 5 tt (omega arith) (omega arith)) (λ _ _.
+        then-ok (mask-in n 6 (omega arith) (omega arith)) (λ _ _.
+        then-ok (mask-in n 14 (omega arith) (omega arith)) (λ _ _.
+        then-ok (count-in 0 256 22 (omega arith) (omega arith)) (λ m e.
+        then-ok (items-in _ 24 (action-in n) m 24 (omega arith) (omega arith)) (λ _ _. given (ap (λ (k : ℕ). 24 + 24 * k) (e .0))))))))))
+
+-- ---- bodies of entries, of a length that fits the kind
+
+abbrev pub Bodies : {A : Type 0} → Kind A → Type 0
+Bodies k = (lo hi len : ℕ) → T (k .fits len) → Part lo hi len (λ p. k .body p len)
+
+pub plain-in : {A : Type 0} (a : A) → Bodies (plain a)
+unfolding plain
+plain-in a lo hi len t p l h = given tt
+
+module _ (bytes : List ℕ) where
+  pub one-in : {A : Type 0} (make : ℕ → A) (bound : ℕ) → Bodies (one bytes make bound)
+  unfolding one
+  one-in make bound lo hi len t p l h =
+      let e = eqb→eq len 2 t in
+      then-ok (reference-in lo hi bytes bound p l (omega arith)) (λ _ _. given tt)
+
+  pub two-in : {A : Type 0} (make : ℕ → ℕ → A) (bound bound′ : ℕ) → Bodies (two bytes make bound bound′)
+  unfolding two
+  two-in make bound bound′ lo hi len t p l h =
+      let e = eqb→eq len 4 t in
+      then-ok (reference-in lo hi bytes bound p l (omega arith)) (λ _ _.
+      then-ok (reference-in lo hi bytes bound′ (p + 2) (omega arith) (omega arith)) (λ _ _. given tt))
+
+  pub clauses-in : (n : ℕ) (rule : ℕ → ℕ → Bool) (make : List Clause → Basic) → Bodies (clauses bytes n rule make)
+  unfolding clauses
+  clauses-in n rule make lo hi len t p l h =
+      then-ok (items-in lo hi _ 16 (clause-in lo hi bytes n rule) (len / 16) p l (omega arith)) (λ _ _. given tt)
+
+-- numbers that ascend, as many as the length has room for
+pub lists-in : {A : Type 0} (size : ℕ) (make : List ℕ → A) (read : ℕ → Result ℕ) → ((lo hi : ℕ) → Part lo hi size read)
+    → (lo hi len : ℕ) → Part lo hi len (λ p. ascending read size 0 p (len / size) >>= λ xs. found (make xs))
+lists-in size make read h lo hi len p l u =
+    let e = mul-div-le len size in
+    then-ok (ascending-in lo hi read size (h lo hi) (len / size) 0 p l (omega arith)) (λ _ _. given tt)
