@@ -64,7 +64,7 @@ steps-before p (given h) = tt
 reply-before : {hi : ℕ} (p : ℕ) {P : File → Type 0} {y : Result File}
     → Yields (Within (suc p) hi) P y → Before p (replyTo (y >>= checkFile))
 unfolding replyTo _>>=_
-reply-before p (refused w) = inr (w .low)
+reply-before p (refused w) = inr (omega (arith, w .low))
 reply-before p (given {a = f} h) = steps-before p (check-ok f)
 
 at-first : {q : ℕ} {bs : List ℕ} → From q bs → (p : ℕ) → getElem? bs 0 ≡ some p → q ≤ p
