@@ -1,5 +1,6 @@
 //! Reads the bytes of a file front to back and finds the faults of its layout,
-//! replies 1 to 7. At each item: past the end (3), then range (2, 4), then 5, 6, 7.
+//! replies 1 to 7, and 19 where it is held to small limits. At each item: past the end (3), then range (2, 4), then 19,
+//! then 5, 6, 7.
 
 use crate::fault::{Fault, Group, Item};
 use crate::file::{mark, ActionSet, ActionSetKind, Clause, File, Span, StateSet, Step};
@@ -15,6 +16,21 @@ pub const MAX_CLAUSES: usize = 256;
 
 type Read<T> = Result<T, Fault>;
 
+/// The most bytes of a file, states of an explicit set and steps that are taken; more is refused with 19.
+#[derive(Clone, Copy, Debug, PartialEq, Eq)]
+pub struct Limits {
+    pub bytes: usize,
+    pub states: usize,
+    pub steps: usize,
+}
+
+impl Limits {
+    /// Document 01's own, past which 1 and 4 come first: no 19.
+    pub const FULL: Limits = Limits { bytes: MAX_BYTES, states: MAX_STATES, steps: MAX_STEPS };
+    /// Those of document 02, l.
+    pub const SMALL: Limits = Limits { bytes: 16_384, states: 512, steps: 256 };
+}
+
 /// The body of an entry: its bytes and where they begin in the file.
 #[derive(Clone, Copy)]
 struct Body<'a> {
@@ -25,6 +41,7 @@ struct Body<'a> {
 
 struct Reader<'a> {
     bytes: &'a [u8],
+    limits: Limits,
     at: usize,
     file: File,
     /// The mask of the facts that no mask or state may name.
@@ -33,22 +50,27 @@ struct Reader<'a> {
 
 /// Decodes a file, or gives the first fault of its layout.
 pub fn read(bytes: &[u8]) -> Read<File> {
-    let mut reader = Reader::new(bytes);
+    read_within(bytes, Limits::FULL)
+}
+
+/// The same by these limits.
+pub fn read_within(bytes: &[u8], limits: Limits) -> Read<File> {
+    let mut reader = Reader::new(bytes, limits);
     reader.whole()?;
     Ok(reader.file)
 }
 
 /// The items of a file that stand before the first fault of its layout, and that fault. Of an
 /// entry with a fault, the states and clauses before it stand at the end of the common lists.
-pub fn beginning(bytes: &[u8]) -> (File, Option<Fault>) {
-    let mut reader = Reader::new(bytes);
+pub fn beginning(bytes: &[u8], limits: Limits) -> (File, Option<Fault>) {
+    let mut reader = Reader::new(bytes, limits);
     let fault = reader.whole().err();
     (reader.file, fault)
 }
 
 impl<'a> Reader<'a> {
-    fn new(bytes: &'a [u8]) -> Reader<'a> {
-        Reader { bytes, at: 4, file: File::default(), barred: 0 }
+    fn new(bytes: &'a [u8], limits: Limits) -> Reader<'a> {
+        Reader { bytes, limits, at: 4, file: File::default(), barred: 0 }
     }
 
     /// All parts of the file in turn.
@@ -58,6 +80,7 @@ impl<'a> Reader<'a> {
         if self.bytes.len() > MAX_BYTES || u32::from_be_bytes(*stated) as usize != rest.len() {
             return Err(wrong_length());
         }
+        within(self.bytes.len(), self.limits.bytes, 0, Item::Whole)?;
         self.task()?;
         self.action_sets()?;
         self.state_sets()?;
@@ -205,6 +228,8 @@ impl<'a> Reader<'a> {
     }
 
     fn explicit(&mut self, body: Body) -> Read<Span> {
+        let (states, length_field) = (body.bytes.len() / 8, Item::EntryLength(Group::StateSet, body.entry));
+        within(states, self.limits.states, body.place - 3, length_field)?;
         let from = self.file.states.len();
         for (k, bytes) in body.bytes.chunks_exact(8).enumerate() {
             let state = word(bytes);
@@ -258,7 +283,9 @@ impl<'a> Reader<'a> {
     }
 
     fn steps(&mut self) -> Read<()> {
+        let place = self.at;
         let count = self.count("step count", 1, MAX_STEPS)?;
+        within(count, self.limits.steps, place, Item::Field("step count"))?;
         self.file.steps.reserve(count.min((self.bytes.len() - self.at) / 12));
         for s in 0..count as u16 {
             let b = self.take(12, Item::Step(s))?;
@@ -271,6 +298,14 @@ impl<'a> Reader<'a> {
         }
         Ok(())
     }
+}
+
+/// 19 where there are more than the limit.
+fn within(count: usize, limit: usize, place: usize, item: Item) -> Read<()> {
+    if count > limit {
+        return Err(Fault::layout(19, place, item));
+    }
+    Ok(())
 }
 
 /// The k-th reference of a body, which must be below `above`.

@@ -30,6 +30,7 @@ pub mod words;
 use std::fmt;
 
 use fault::Fault;
+use layout::Limits;
 pub use numbering::check_numbered;
 pub use rounds::{check_round, Round};
 
@@ -55,6 +56,12 @@ pub enum Answer {
 /// Checks a file: task and certificate together.
 pub fn check(bytes: &[u8]) -> Reply {
     layout::read(bytes).and_then(|file| steps::check(&file)).into()
+}
+
+/// Checks a file of at most 16,384 bytes, 512 states in an explicit set and 256 steps (document 02, l); more is refused with
+/// 19. Any other reply is that of `check`.
+pub fn check_small(bytes: &[u8]) -> Reply {
+    layout::read_within(bytes, Limits::SMALL).and_then(|file| steps::check(&file)).into()
 }
 
 /// Asks whether a state is in a state set of the file.

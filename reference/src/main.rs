@@ -1,5 +1,5 @@
-//! The command line: check, whole or a round of it, and ask, seeded cases and their replies, the text form with names,
-//! graphs, and a caller's own rule numbers.
+//! The command line: check, whole, by the small limits or a round of it, and ask, seeded cases and their replies, the text form
+//! with names, graphs, and a caller's own rule numbers.
 
 use std::io::{self, BufWriter, Read, Write};
 use std::process::ExitCode;
@@ -9,22 +9,30 @@ use reference::generate::limits::workload;
 use reference::generate::numbered::numbered;
 use reference::generate::random::Random;
 use reference::generate::rounds::rounds;
+use reference::generate::small::small;
 use reference::generate::{cases, damaged, Case};
 use reference::names::Names;
 use reference::{
-    ask, assemble, check, check_numbered, check_round, cost, explain, named, numbering, show, Reply,
+    ask, assemble, check, check_numbered, check_round, check_small, cost, explain, named, numbering, show,
+    Reply,
 };
 
-const USAGE: &str = "usage: reference check [--numbers LIST] FILE | round FILE FROM COUNT | ask FILE ENTRY STATE | gen SEED COUNT | \
-numbered SEED COUNT | rounds SEED COUNT | damaged FILE SEED COUNT | replies | records | assemble TEXTFILE | names TEXTFILE | show [--numbers LIST] FILE [NAMES] | \
-explain [--numbers LIST] FILE [NAMES] | draw FILE [table|steps] [NAMES] | cost FILE | renumber LIST FILE | workload NUMBER SEED   \
+const USAGE: &str = "usage: reference check [--numbers LIST | --small] FILE | round FILE FROM COUNT | ask FILE ENTRY STATE | gen SEED COUNT | \
+numbered SEED COUNT | rounds SEED COUNT | small SEED COUNT | damaged FILE SEED COUNT | replies | records | assemble TEXTFILE | names TEXTFILE | show [--numbers LIST] FILE [NAMES] | \
+explain [--numbers LIST | --small] FILE [NAMES] | draw FILE [table|steps] [NAMES] | cost FILE | renumber LIST FILE | workload NUMBER SEED   \
 (FILE may be - for standard input; LIST is numbers with commas or spaces between, or a file of bytes)";
 
 const EXPLAIN_USAGE: &str =
-    "usage: explain [--numbers LIST] FILE [NAMES]   (FILE may be - for standard input)";
+    "usage: explain [--numbers LIST | --small] FILE [NAMES]   (FILE may be - for standard input)";
 
-/// A caller's list of rule numbers, where one is given.
-type List = Option<Vec<u8>>;
+/// How a file is checked.
+enum How {
+    Plain,
+    /// With a caller's list of rule numbers.
+    Numbered(Vec<u8>),
+    /// By the small limits.
+    Small,
+}
 
 /// What stops a command: a wrong call, or a message.
 enum Stop {
@@ -65,10 +73,11 @@ fn explain_file(words: &[&str]) -> Result<ExitCode, Stop> {
         writeln!(out, "{EXPLAIN_USAGE}")?;
         return Ok(ExitCode::SUCCESS);
     }
-    let (numbers, bytes, names) = read_all(words)?;
-    let text = match numbers {
-        None => explain::explain(&bytes, &names),
-        Some(numbers) => explain::explain_numbered(&bytes, &numbers, &names),
+    let (how, bytes, names) = read_all(words)?;
+    let text = match how {
+        How::Plain => explain::explain(&bytes, &names),
+        How::Numbered(numbers) => explain::explain_numbered(&bytes, &numbers, &names),
+        How::Small => explain::explain_small(&bytes, &names),
     };
     out.write_all(text.as_bytes())?;
     out.flush()?;
@@ -101,6 +110,7 @@ fn run(words: &[&str]) -> Result<(), Stop> {
         ["gen", seed, count] => write_lines(&mut out, cases(number(seed)?, number(count)?))?,
         ["numbered", seed, count] => write_lines(&mut out, numbered(number(seed)?, number(count)?))?,
         ["rounds", seed, count] => write_lines(&mut out, rounds(number(seed)?, number(count)?))?,
+        ["small", seed, count] => write_lines(&mut out, small(number(seed)?, number(count)?))?,
         ["damaged", file, seed, count] => {
             write_lines(&mut out, damaged(&read(file)?, number(seed)?, number(count)?))?;
         }
@@ -160,30 +170,33 @@ fn write_cost(out: &mut impl Write, bytes: &[u8]) -> io::Result<()> {
     }
 }
 
-/// The reply for the arguments `[--numbers LIST] FILE`.
+/// The reply for the arguments `[--numbers LIST | --small] FILE`.
 fn checked(words: &[&str]) -> Result<Reply, Stop> {
-    match with_list(words)? {
-        (None, [file]) => Ok(check(&read(file)?)),
-        (Some(numbers), [file]) => Ok(check_numbered(&read(file)?, &numbers)),
+    match with_how(words)? {
+        (How::Plain, [file]) => Ok(check(&read(file)?)),
+        (How::Numbered(numbers), [file]) => Ok(check_numbered(&read(file)?, &numbers)),
+        (How::Small, [file]) => Ok(check_small(&read(file)?)),
         _ => Err(Stop::Usage),
     }
 }
 
 /// The text form for the arguments `[--numbers LIST] FILE [NAMES]`.
 fn shown(words: &[&str]) -> Result<String, Stop> {
-    let (numbers, bytes, names) = read_all(words)?;
-    Ok(match numbers {
-        None => show::show_named(&bytes, &names),
-        Some(numbers) => show::show_numbered(&bytes, &numbers, &names),
-    })
+    let (how, bytes, names) = read_all(words)?;
+    match how {
+        How::Plain => Ok(show::show_named(&bytes, &names)),
+        How::Numbered(numbers) => Ok(show::show_numbered(&bytes, &numbers, &names)),
+        How::Small => Err(Stop::Usage),
+    }
 }
 
-/// A list where the arguments begin with `--numbers LIST`, and the other arguments.
-fn with_list<'a>(words: &'a [&'a str]) -> Result<(List, &'a [&'a str]), Stop> {
+/// What the arguments begin with, `--numbers LIST`, `--small` or neither, and the other arguments.
+fn with_how<'a>(words: &'a [&'a str]) -> Result<(How, &'a [&'a str]), Stop> {
     match words {
-        ["--numbers", list, rest @ ..] => Ok((Some(read_list(list)?), rest)),
+        ["--numbers", list, rest @ ..] => Ok((How::Numbered(read_list(list)?), rest)),
         ["--numbers"] => Err(Stop::Usage),
-        _ => Ok((None, words)),
+        ["--small", rest @ ..] => Ok((How::Small, rest)),
+        _ => Ok((How::Plain, words)),
     }
 }
 
@@ -221,15 +234,15 @@ fn read_text(file: &str) -> Result<String, Stop> {
     String::from_utf8(read(file)?).map_err(|_| Stop::Message("the text is not UTF-8".into()))
 }
 
-/// The list, the bytes and the names for the arguments `[--numbers LIST] FILE [NAMES]`.
-fn read_all(words: &[&str]) -> Result<(List, Vec<u8>, Names), Stop> {
-    let (numbers, rest) = with_list(words)?;
+/// How to check, the bytes and the names for the arguments `[--numbers LIST | --small] FILE [NAMES]`.
+fn read_all(words: &[&str]) -> Result<(How, Vec<u8>, Names), Stop> {
+    let (how, rest) = with_how(words)?;
     let (bytes, names) = match rest {
         [file] => read_named(file, None)?,
         [file, names] => read_named(file, Some(names))?,
         _ => return Err(Stop::Usage),
     };
-    Ok((numbers, bytes, names))
+    Ok((how, bytes, names))
 }
 
 /// A file's bytes, of a text too, and the names that belong to it.

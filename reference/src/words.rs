@@ -54,6 +54,7 @@ fn layout(number: u8, item: Item) -> String {
         (5, _) => format!("{named} names a fact that the task does not have"),
         (6, Item::Part(_, _, "action", _)) => format!("{named} is not an action of the task"),
         (6, _) => format!("{named} does not name an entry allowed there"),
+        (19, _) => format!("{named} is over the small limits"),
         (_, Item::Part(_, _, "clause", _)) => format!("{named} has too many literals for its kind"),
         _ => format!("{named} is not above the one before it"),
     }

@@ -26,6 +26,21 @@ fn rounds() {
     assert_eq!(printed(&["round", "-", "9", "0"], b""), "refused 1 0\n");
 }
 
+/// The sample fits the small limits, and a file of 33,391 bytes does not.
+#[test]
+fn small_limits() {
+    let (fits, long) = (sample("sample.cert"), sample("two_sets.cert"));
+    assert_eq!(printed(&["check", "--small", &fits], b""), "accepted\n");
+    assert_eq!(printed(&["check", "--small", "-"], b""), "refused 1 0\n");
+    assert_eq!(printed(&["check", "--small", &long], b""), "refused 19 0\n");
+    assert_eq!(printed(&["check", &long], b""), "accepted\n");
+    let told = printed_by(&["explain", "--small", &long], b"", 1);
+    let end = "\nThe file has 33391 bytes.\nIt may hold 4 to 16384 by the small limits.\n";
+    assert!(told.starts_with("refused 19 0\n") && told.ends_with(end), "{told}");
+    let named = printed_by(&["explain", "--small", &fits, &sample("sample.names")], b"", 0);
+    assert!(named.starts_with("accepted\n") && named.contains("charge_closed"), "{named}");
+}
+
 /// A list as numbers or as a file of bytes, for each command that takes one.
 #[test]
 fn a_callers_own_rule_numbers() {
@@ -85,29 +100,36 @@ fn cases_and_their_replies() {
     assert_eq!(replies.lines().count(), 60);
     let form = |reply: &str| ["accepted", "in", "out"].contains(&reply) || reply.starts_with("refused ");
     assert!(replies.lines().all(form), "{replies}");
-    let empty = b"check \nask 0 0 00\nnumbered - 00\nnumbered 0102\nround 0 0 00\n";
-    let refused = "refused 1 0\nrefused 1 0\nrefused 18 0\nrefused 18 2\nrefused 1 0\n";
+    let empty = b"check \nask 0 0 00\nnumbered - 00\nnumbered 0102\nround 0 0 00\nsmall \n";
+    let refused = "refused 1 0\nrefused 1 0\nrefused 18 0\nrefused 18 2\nrefused 1 0\nrefused 1 0\n";
     assert_eq!(printed(&["replies"], empty), refused);
     assert_eq!(printed(&["numbered", "4", "60"], b"").lines().count(), 60);
     assert_eq!(printed(&["rounds", "4", "60"], b"").lines().count(), 60);
+    assert_eq!(printed(&["small", "4", "60"], b"").lines().count(), 60);
     assert_eq!(run(&["replies"], b"nonsense\n").status.code(), Some(1));
 }
 
 #[test]
 fn wrong_calls_print_the_usage_and_end_with_2() {
     let cert = sample("sample.cert");
-    let wrong: [&[&str]; 20] = [
+    let wrong: [&[&str]; 26] = [
         &[],
         &["check"],
         &["check", &cert, "more"],
         &["check", "--numbers"],
         &["check", "--numbers", "1"],
         &["check", "--numbers", "1", &cert, "more"],
+        &["check", "--small"],
+        &["check", "--small", &cert, "more"],
+        &["check", "--small", "--numbers", "1", &cert],
         &["show", "--numbers", "1"],
+        &["show", "--small", &cert],
+        &["ask", "--small", &cert, "3", "2"],
         &["ask", "--numbers", "1", &cert, "3", "2"],
         &["renumber", &cert],
         &["numbered", "1"],
         &["rounds", "1"],
+        &["small", "1"],
         &["round", &cert, "0"],
         &["round", &cert, "0", "18446744073709551616"],
         &["round", "--numbers", "1", &cert, "0", "1"],
@@ -144,13 +166,21 @@ fn explanations_and_their_status() {
     for help in ["-h", "--help"] {
         let output = run(&["explain", help], b"");
         assert_eq!((output.status.code(), output.stderr.len()), (Some(0), 0));
-        let usage = b"usage: explain [--numbers LIST] FILE [NAMES] ";
+        let usage = b"usage: explain [--numbers LIST | --small] FILE [NAMES] ";
         assert!(output.stdout.starts_with(usage) && output.stdout.ends_with(b")\n"), "{output:?}");
     }
-    for wrong in [&["explain"][..], &["explain", "a", "b", "c"], &["explain", "--numbers", "1"]] {
+    for wrong in [
+        &["explain"][..],
+        &["explain", "a", "b", "c"],
+        &["explain", "--numbers", "1"],
+        &["explain", "--small"],
+    ] {
         let output = run(wrong, b"");
         assert_eq!((output.status.code(), output.stdout.len()), (Some(2), 0));
-        assert!(output.stderr.starts_with(b"usage: explain [--numbers LIST] FILE [NAMES] "), "{output:?}");
+        assert!(
+            output.stderr.starts_with(b"usage: explain [--numbers LIST | --small] FILE [NAMES] "),
+            "{output:?}"
+        );
     }
     for missing in [&["explain", "no-such-file"][..], &["explain", &sample("sample.cert"), "no-such-file"]] {
         let output = run(missing, b"");

@@ -8,6 +8,7 @@ use common::kind;
 use reference::draft::{Draft, DraftActions};
 use reference::generate::numbered::numbered;
 use reference::generate::rounds::rounds;
+use reference::generate::small::small;
 use reference::generate::{cases, Call, Case};
 use reference::layout;
 use reference::steps::check_step;
@@ -113,7 +114,7 @@ const PINNED: u64 = 0x356F_DC59_DF30_15FA;
 
 #[test]
 fn the_line_form_reads_back() {
-    for case in cases(9, 500).chain(numbered(9, 200)).chain(rounds(9, 200)) {
+    for case in cases(9, 500).chain(numbered(9, 200)).chain(rounds(9, 200)).chain(small(9, 200)) {
         assert_eq!(Case::parse(&case.line()), Some(case));
     }
     let empty = Case { call: Call::Check, bytes: Vec::new() };
@@ -136,6 +137,8 @@ fn the_line_form_reads_back() {
         "round 1",
         "round 1 x 00",
         "round 18446744073709551616 2 00",
+        "small 0",
+        "small 1 00",
     ] {
         assert_eq!(Case::parse(line), None, "'{line}'");
     }
@@ -152,4 +155,5 @@ fn the_record_form() {
     assert_eq!(record(Call::Ask(3, 4)), [head(1, 3, 4, 2), vec![7, 8]].concat());
     assert_eq!(record(Call::Numbered(vec![5, 0, 6])), [head(2, 3, 0, 2), vec![5, 0, 6, 7, 8]].concat());
     assert_eq!(record(Call::Round(5, 9)), [head(3, 5, 9, 2), vec![7, 8]].concat());
+    assert_eq!(record(Call::Small), [head(4, 0, 0, 2), vec![7, 8]].concat());
 }

@@ -1,4 +1,4 @@
-//! Replies 1 to 7: the field with the fault, what it holds and what it may hold.
+//! Replies 1 to 7, and 19: the field with the fault, what it holds and what it may hold.
 
 use std::ops::Range;
 
@@ -6,7 +6,7 @@ use crate::draft::Draft;
 use crate::fault::{Fault, Group, Item};
 use crate::file::File;
 use crate::layout::{
-    MAX_ACTIONS, MAX_ACTION_SETS, MAX_BYTES, MAX_CLAUSES, MAX_STATES, MAX_STATE_SETS, MAX_STEPS,
+    Limits, MAX_ACTIONS, MAX_ACTION_SETS, MAX_BYTES, MAX_CLAUSES, MAX_STATES, MAX_STATE_SETS, MAX_STEPS,
 };
 
 /// What a field may hold.
@@ -47,15 +47,16 @@ pub struct LayoutFault {
 struct Context<'a> {
     bytes: &'a [u8],
     file: &'a File,
+    limits: Limits,
     number: u8,
     place: usize,
     item: Item,
 }
 
-/// The field that a layout fault is about; `file` is what was read before it.
-pub fn field(bytes: &[u8], file: &File, fault: &Fault, item: Item) -> LayoutFault {
+/// The field that a layout fault is about; `file` is what was read before it by the limits.
+pub fn field(bytes: &[u8], file: &File, limits: Limits, fault: &Fault, item: Item) -> LayoutFault {
     let place = fault.place as usize;
-    let context = Context { bytes, file, number: fault.number, place, item };
+    let context = Context { bytes, file, limits, number: fault.number, place, item };
     let bytes = place..place + context.width();
     LayoutFault { number: fault.number, item, bytes, holds: context.holds(), allowed: context.allowed() }
 }
@@ -67,10 +68,15 @@ impl Context<'_> {
         Some(bytes.iter().fold(0, |number, byte| number << 8 | *byte as u64))
     }
 
+    /// Whether the file has too many bytes; else the fault is in its length field, where it is of the whole file.
+    fn is_too_long(&self) -> bool {
+        self.number == 19 || self.bytes.len() > MAX_BYTES
+    }
+
     /// How many bytes the field has.
     fn width(&self) -> usize {
         match self.item {
-            Item::Whole if self.bytes.len() > MAX_BYTES => self.bytes.len(),
+            Item::Whole if self.is_too_long() => self.bytes.len(),
             Item::Whole => 4,
             Item::Field("version" | "fact count") => 1,
             Item::Field("init" | "goal") | Item::Mask(..) => 8,
@@ -89,7 +95,7 @@ impl Context<'_> {
 
     fn holds(&self) -> Option<u64> {
         match (self.number, self.item) {
-            (1, _) if self.bytes.len() > MAX_BYTES => Some(self.bytes.len() as u64),
+            (_, Item::Whole) if self.is_too_long() => Some(self.bytes.len() as u64),
             (3, _) => None,
             _ => self.number_at(self.place, self.width().min(8)),
         }
@@ -107,6 +113,7 @@ impl Context<'_> {
             (4, item) => self.range(item),
             (5, _) => Allowed::FactsBelow(self.file.task.facts),
             (6, item) => Allowed::Numbers(0..self.named_below(item) as u64),
+            (19, item) => self.within_limits(item),
             (_, Item::Part(_, _, "clause", _)) => match self.kind(Group::StateSet) {
                 4 => Allowed::Horn,
                 _ => Allowed::TwoLiteral,
@@ -132,6 +139,16 @@ impl Context<'_> {
             },
             Item::Whole | Item::Mask(..) | Item::Entry(..) => Allowed::Nothing,
             Item::Part(..) | Item::Step(_) | Item::Rest => Allowed::Nothing,
+        }
+    }
+
+    /// The file's bytes, an explicit set's length and the step count, reply 19.
+    fn within_limits(&self, item: Item) -> Allowed {
+        let Limits { bytes, states, steps } = self.limits;
+        match item {
+            Item::Whole => Allowed::Numbers(4..bytes as u64 + 1),
+            Item::EntryLength(..) => Allowed::Length { kind: 3, fixed: 0, each: 8, most: states as u64 },
+            _ => Allowed::Numbers(1..steps as u64 + 1),
         }
     }
 

@@ -120,7 +120,7 @@ pub fn full_file(over: usize) -> Vec<u8> {
 }
 
 /// Adds small entries of 3 and 5 bytes that take up `rest`, which is at least 8.
-fn fill(d: &mut Draft, mut rest: usize) {
+pub fn fill(d: &mut Draft, mut rest: usize) {
     while rest % 3 != 0 {
         d.state_sets.push(DraftSet::Complement(0));
         rest -= 5;

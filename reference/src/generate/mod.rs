@@ -10,13 +10,14 @@ pub mod mutate;
 pub mod numbered;
 pub mod random;
 pub mod rounds;
+pub mod small;
 pub mod tasks;
 pub mod worst;
 
 use crate::draft::Draft;
 use crate::generate::builder::Builder;
 use crate::generate::random::Random;
-use crate::{ask, check, check_numbered, check_round};
+use crate::{ask, check, check_numbered, check_round, check_small};
 
 /// What is done with a file.
 #[derive(Clone, Debug, PartialEq, Eq)]
@@ -28,6 +29,8 @@ pub enum Call {
     Ask(u64, u64),
     /// From this step on, so many steps.
     Round(u64, u64),
+    /// A check by the small limits.
+    Small,
 }
 
 /// A file, and what is done with it.
@@ -42,8 +45,8 @@ impl Case {
         self.call == Call::Check
     }
 
-    /// The line form: `check HEX`, `numbered LISTHEX HEX` with `-` for an empty list, `ask ENTRY STATE HEX` or
-    /// `round FROM COUNT HEX`.
+    /// The line form: `check HEX`, `numbered LISTHEX HEX` with `-` for an empty list, `ask ENTRY STATE HEX`,
+    /// `round FROM COUNT HEX` or `small HEX`.
     pub fn line(&self) -> String {
         let hex = to_hex(&self.bytes);
         match &self.call {
@@ -52,6 +55,7 @@ impl Case {
             Call::Numbered(list) => format!("numbered {} {hex}", to_hex(list)),
             Call::Ask(entry, state) => format!("ask {entry} {state} {hex}"),
             Call::Round(from, count) => format!("round {from} {count} {hex}"),
+            Call::Small => format!("small {hex}"),
         }
     }
 
@@ -66,15 +70,17 @@ impl Case {
             },
             "ask" => Call::Ask(number(&mut words)?, number(&mut words)?),
             "round" => Call::Round(number(&mut words)?, number(&mut words)?),
+            "small" => Call::Small,
             _ => return None,
         };
         let bytes = from_hex(words.next().unwrap_or(""))?;
         words.next().is_none().then_some(Case { call, bytes })
     }
 
-    /// The record form, for programs that read no text: 0, 1 for a question, 2 for a list or 3 for a round (1 byte); entry, the list's
-    /// length or the step begun at (8); state, 0 or the count of steps (8); the file's length (4), all big-endian; the list, and the
-    /// file, of which no more than 65,537 bytes are kept. A list is kept whole; `crates/vectors` takes at most 1,024 bytes of one.
+    /// The record form, for programs that read no text: 0, 1 for a question, 2 for a list, 3 for a round or 4 for the small limits (1
+    /// byte); entry, the list's length or the step begun at (8); state, 0 or the count of steps (8); the file's length (4), all
+    /// big-endian; the list, and the file, of which no more than 65,537 bytes are kept. A list is kept whole; `crates/vectors` takes at
+    /// most 1,024 bytes of one.
     pub fn record(&self) -> Vec<u8> {
         let bytes = &self.bytes[..self.bytes.len().min(65_537)];
         let (kind, first, second, list) = match &self.call {
@@ -82,6 +88,7 @@ impl Case {
             Call::Ask(entry, state) => (1, *entry, *state, &[][..]),
             Call::Numbered(list) => (2, list.len() as u64, 0, &list[..]),
             Call::Round(from, count) => (3, *from, *count, &[][..]),
+            Call::Small => (4, 0, 0, &[][..]),
         };
         let mut record = vec![kind];
         record.extend(first.to_be_bytes());
@@ -99,6 +106,7 @@ impl Case {
             Call::Numbered(list) => check_numbered(&self.bytes, list).to_string(),
             Call::Ask(entry, state) => ask(&self.bytes, *entry, *state).to_string(),
             Call::Round(from, count) => check_round(&self.bytes, *from, *count).to_string(),
+            Call::Small => check_small(&self.bytes).to_string(),
         }
     }
 }

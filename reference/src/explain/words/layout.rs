@@ -6,7 +6,6 @@ use super::text::{counted, ACTION_SET_KINDS, STATE_SET_KINDS};
 use crate::explain::layout::{entry_place, Allowed, LayoutFault};
 use crate::fault::{Group, Item};
 use crate::file::{Clause, File};
-use crate::layout::MAX_BYTES;
 use crate::names::Names;
 use crate::show;
 
@@ -31,7 +30,7 @@ fn group_name(group: Group) -> &'static str {
 /// The field's name; items of an entry are counted from 0.
 fn name(bytes: &[u8], file: &File, fault: &LayoutFault, names: &Names) -> String {
     match fault.item {
-        Item::Whole if fault.bytes.len() > MAX_BYTES => "the file".into(),
+        Item::Whole if fault.bytes.len() > 4 => "the file".into(),
         Item::Whole => "the length field".into(),
         Item::Field("fact count") => "the fact count, n".into(),
         Item::Field("goal") => "the goal mask".into(),
@@ -87,7 +86,10 @@ fn holds_words(bytes: &[u8], fault: &LayoutFault, names: &Names) -> String {
                 counted(literals as usize, "literal")
             )
         }
-        _ if fault.number == 1 && fault.bytes.len() > 4 => format!("The file has {value} bytes."),
+        Allowed::Length { each, .. } if fault.number == 19 => {
+            format!("It holds {value}, for {}.", counted((value / each) as usize, "state"))
+        }
+        _ if fault.item == Item::Whole && fault.bytes.len() > 4 => format!("The file has {value} bytes."),
         _ => format!("It holds {value}."),
     }
 }
@@ -121,7 +123,7 @@ fn allowed_words(file: &File, fault: &LayoutFault) -> String {
         Allowed::FactsBelow(n) => format!("It may hold facts 0 to {} only: the task has {n} facts.", n - 1),
         Allowed::Horn => "A clause of a Horn set may have at most one positive fact.".into(),
         Allowed::TwoLiteral => "A clause of a two-literal set may have at most two literals.".into(),
-        Allowed::Length { .. } => length_words(fault.item, &fault.allowed),
+        Allowed::Length { .. } => length_words(fault),
         Allowed::Whole { .. } => "It has to end within the file.".into(),
         Allowed::Nothing => "The file has to end with the last step.".into(),
     }
@@ -150,6 +152,7 @@ fn because(file: &File, fault: &LayoutFault) -> String {
             format!(": it names an earlier {}", group_name(group))
         }
         (6, _) => format!(": the file has {}", counted(file.action_sets.len(), "action set")),
+        (19, _) => BY_SMALL_LIMITS.into(),
         _ => String::new(),
     }
 }
@@ -159,13 +162,16 @@ fn kinds(names: &[&str]) -> String {
     format!(": {}", numbered.collect::<Vec<_>>().join(", "))
 }
 
-fn length_words(item: Item, allowed: &Allowed) -> String {
-    let Allowed::Length { kind, fixed, each, most } = *allowed else { return String::new() };
-    let Item::EntryLength(group, _) = item else { return String::new() };
+const BY_SMALL_LIMITS: &str = " by the small limits";
+
+fn length_words(fault: &LayoutFault) -> String {
+    let Allowed::Length { kind, fixed, each, most } = fault.allowed else { return String::new() };
+    let Item::EntryLength(group, _) = fault.item else { return String::new() };
     let of = format!("the kind, here {kind} ({})", kind_name(group, kind));
+    let limits = if fault.number == 19 { BY_SMALL_LIMITS } else { "" };
     match (fixed, each) {
         (0, 0) => format!("It may hold 1 only: {of}, and nothing more."),
         (_, 0) => format!("It may hold {} only: {of}, and {fixed} bytes of references.", 1 + fixed),
-        _ => format!("It may hold 1 for {of}, and {each} for each of 0 to {most} items."),
+        _ => format!("It may hold 1 for {of}, and {each} for each of 0 to {most} items{limits}."),
     }
 }
