@@ -4,8 +4,9 @@
 use std::collections::BTreeSet;
 use std::path::PathBuf;
 
+use reference::fault::{Cause, Fault, Item};
 use reference::generate::{Call, Case};
-use reference::layout;
+use reference::layout::{self, Limits};
 use reference::steps::check_step;
 
 fn read(name: &str) -> Vec<u8> {
@@ -27,7 +28,8 @@ fn cases(mut records: &[u8]) -> Vec<Case> {
             0 => Call::Check,
             1 => Call::Ask(first, second),
             2 => Call::Numbered(numbers.to_vec()),
-            _ => Call::Round(first, second),
+            3 => Call::Round(first, second),
+            _ => Call::Small,
         };
         list.push(Case { call, bytes: bytes.to_vec() });
         assert!(records.starts_with(&list[list.len() - 1].record()));
@@ -49,7 +51,8 @@ fn their_replies_are_those_given_today() {
 
 #[test]
 fn every_reply_and_rule_is_among_them() {
-    let [mut replies, mut numbered, mut rounds] = [const { BTreeSet::new() }; 3];
+    let [mut replies, mut numbered, mut rounds, mut small] = [const { BTreeSet::new() }; 4];
+    let mut breaches = BTreeSet::new();
     let mut passed = BTreeSet::new();
     for case in cases(&read("stdin")) {
         let reply = case.reply().split(' ').take(2).collect::<Vec<&str>>().join(" ");
@@ -57,7 +60,15 @@ fn every_reply_and_rule_is_among_them() {
             Call::Check | Call::Ask(..) => replies.insert(reply),
             Call::Numbered(_) => numbered.insert(reply),
             Call::Round(..) => rounds.insert(reply),
+            Call::Small => small.insert(reply),
         };
+        if let Err(Fault { number: 19, cause, .. }) = layout::read_within(&case.bytes, Limits::SMALL) {
+            breaches.insert(match cause {
+                Cause::Layout(Item::Whole) => "bytes",
+                Cause::Layout(Item::EntryLength(..)) => "states",
+                _ => "steps",
+            });
+        }
         if !case.is_check() {
             continue;
         }
@@ -73,5 +84,7 @@ fn every_reply_and_rule_is_among_them() {
     assert_eq!(replies, all(&numbers, &["accepted", "in", "out"]));
     assert_eq!(numbered, all(&[&numbers[..12], &[18]].concat(), &["accepted"]));
     assert_eq!(rounds, all(&[&numbers[..12], &[17]].concat(), &["ended", "go on"]));
+    assert_eq!(small, all(&[&numbers[..12], &[19]].concat(), &["accepted"]));
+    assert_eq!(breaches, ["bytes", "states", "steps"].into());
     assert_eq!(passed, (1..=28).collect());
 }
