@@ -15,7 +15,12 @@ extern "C" {
 /* 0 where the file's certificate shows that no forbidden state is ever reached, else the refusal. */
 uint64_t certificate_check(const uint8_t *file, size_t length);
 
-/* The same for a file with the caller's own rule numbers: `numbers` is a list of 28 bytes from 1 to 255, no two of them equal, the
+/* The same for a caller with less room: a file of at most 16,384 bytes, 512 states in an explicit set and 256 steps. More is refused with
+   19: at 0 for the size, after 1; at the length of the set, or at the step count, after 3 and 4 there. Any other reply is
+   certificate_check's, so what is accepted here is accepted there. */
+uint64_t certificate_check_small(const uint8_t *file, size_t length);
+
+/* The same as certificate_check for a file with the caller's own rule numbers: `numbers` is a list of 28 bytes from 1 to 255, no two of them equal, the
    k-th being the number that the file uses for rule k. A number that the list lacks is an unknown rule. A list of another length is
    refused with 18 and its length as place; then one with a zero, or a number used before, with 18 at the first such byte, counted
    from 0. Both come before the file is read. */
@@ -37,8 +42,8 @@ uint64_t certificate_ask(const uint8_t *file, size_t length, uint64_t entry, uin
 enum { CERTIFICATE_OUT = 0, CERTIFICATE_IN = 1 };
 
 /* A refusal is one number: the documents' refusal number times 2^32, plus its place. That is a byte of the file for the numbers 1
-   to 7, a step for 8 to 12, 0 for 13 and 17, and for 18 a byte of the list, or the list's length: 2^32 - 1 where that does not fit
-   32 bits. What is no refusal has number 0. */
+   to 7 and 19, a step for 8 to 12, 0 for 13 and 17, and for 18 a byte of the list, or the list's length: 2^32 - 1 where that does not
+   fit 32 bits. What is no refusal has number 0. */
 #define CERTIFICATE_NUMBER(code) ((uint32_t)((uint64_t)(code) >> 32))
 #define CERTIFICATE_PLACE(code) ((uint32_t)(code))
 
@@ -60,7 +65,8 @@ enum { CERTIFICATE_OUT = 0, CERTIFICATE_IN = 1 };
     EACH(CERTIFICATE_REFUSED_LAST, 12, "the last step is not \"unsolvable\"") \
     EACH(CERTIFICATE_REFUSED_QUESTION, 13, "a question that cannot be asked") \
     EACH(CERTIFICATE_REFUSED_ROUND, 17, "a round of no steps or over 2,048, or begun beyond the last step") \
-    EACH(CERTIFICATE_REFUSED_NUMBERS, 18, "a list of rule numbers that is not 28 different bytes from 1 to 255")
+    EACH(CERTIFICATE_REFUSED_NUMBERS, 18, "a list of rule numbers that is not 28 different bytes from 1 to 255") \
+    EACH(CERTIFICATE_REFUSED_SMALL, 19, "over a small limit: 16,384 bytes, 512 states in an explicit set, 256 steps")
 
 #define CERTIFICATE_CONSTANT(name, number, text) name = number,
 enum certificate_number { CERTIFICATE_NUMBERS(CERTIFICATE_CONSTANT) };

@@ -1,12 +1,12 @@
-/* The proved checker from C, and from C++: what it replies to files, to changes of the sample, to lists of rule numbers, in rounds and
-   to questions, printed for comparison with `expected`. The first file is the sample. */
+/* The proved checker from C, and from C++: what it replies to files, to changes of the sample, by the small limits, to lists of rule
+   numbers, in rounds and to questions, printed for comparison with `expected`. The first file is the sample. */
 #include "certificate.h"
 
 #include <stdio.h>
 #include <stdlib.h>
 #include <string.h>
 
-enum { LIMIT = 65537, RULES = 28, SAMPLE_STEPS = 138, STEP = 12 };
+enum { LIMIT = 65537, SMALL = 16384, RULES = 28, SAMPLE_LIST = 88, SAMPLE_COUNT = 136, SAMPLE_STEPS = 138, STEP = 12 };
 
 /* A change of the sample: one byte, for each refusal that one byte makes. */
 static const struct change {
@@ -76,6 +76,41 @@ static void print_changes(const uint8_t *sample, size_t length) {
         sprintf(what, "byte %u", (unsigned)changes[i].at);
         print_reply(what, certificate_check(changed, length));
     }
+}
+
+/* A number of two bytes, as a file has it. */
+static void put(uint8_t *at, size_t number) {
+    at[0] = (uint8_t)(number >> 8);
+    at[1] = (uint8_t)number;
+}
+
+/* The sample with zeros after it, at each small limit and one past it: bytes; states that the length of its list says; steps that its
+   count says. */
+static void print_small(const uint8_t *sample, size_t length) {
+    static uint8_t file[SMALL + 1];
+    memcpy(file, sample, length);
+    print_reply("small, the sample", certificate_check_small(sample, length));
+    print_reply("small, no bytes", certificate_check_small(NULL, 0));
+    put(file + 2, SMALL - 4);
+    print_reply("small, 16,384 bytes", certificate_check_small(file, SMALL));
+    print_reply("small, 16,385 bytes, a wrong length field", certificate_check_small(file, SMALL + 1));
+    put(file + 2, SMALL - 3);
+    print_reply("small, 16,385 bytes", certificate_check_small(file, SMALL + 1));
+    print_reply("these 16,385 bytes", certificate_check(file, SMALL + 1));
+    put(file + 2, SMALL - 4);
+    put(file + SAMPLE_LIST, 1 + 8 * 512);
+    print_reply("small, 512 states", certificate_check_small(file, SMALL));
+    put(file + SAMPLE_LIST, 1 + 8 * 513);
+    print_reply("small, 513 states", certificate_check_small(file, SMALL));
+    print_reply("these 513 states", certificate_check(file, SMALL));
+    memcpy(file + SAMPLE_LIST, sample + SAMPLE_LIST, 2);
+    put(file + SAMPLE_COUNT, 256);
+    print_reply("small, 256 steps", certificate_check_small(file, SMALL));
+    put(file + SAMPLE_COUNT, 257);
+    print_reply("small, 257 steps", certificate_check_small(file, SMALL));
+    print_reply("these 257 steps", certificate_check(file, SMALL));
+    put(file + SAMPLE_COUNT, 2049);
+    print_reply("small, 2,049 steps", certificate_check_small(file, SMALL));
 }
 
 /* The sample with its rule bytes rewritten by a list, one byte longer than a list may be, that gives rule k the number 255 - k. */
@@ -173,6 +208,7 @@ int main(int count, char **paths) {
     print_answer("a question about no bytes", certificate_ask(NULL, 0, 0, 0));
     length = read_file(paths[1], bytes);
     print_changes(bytes, length);
+    print_small(bytes, length);
     print_numbered(bytes, length);
     print_rounds(bytes, length);
     print_questions(bytes, length);

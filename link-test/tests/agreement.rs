@@ -1,9 +1,11 @@
 //! The linked checker replies as the reference checker does.
 
-use link_test::{answer_code, ask, check, check_numbered, reply_code, round, round_code};
+use link_test::{answer_code, ask, check, check_numbered, check_small, reply_code, round, round_code};
+use reference::draft::mend_length;
 use reference::generate::numbered::numbered;
 use reference::generate::random::Random;
 use reference::generate::rounds::rounds;
+use reference::generate::small::small;
 use reference::generate::{cases, Call};
 use reference::Reply;
 
@@ -12,6 +14,19 @@ fn same_reply(file: &[u8], what: &str) -> u64 {
     let code = check(file);
     assert_eq!(code, reply_code(reference::check(file)), "{what}: {file:02x?}");
     code
+}
+
+/// Both checkers on one file by the small limits: where that is not 19, the code is the full check's.
+fn same_small(file: &[u8], what: &str) -> u64 {
+    let code = check_small(file);
+    assert_eq!(code, reply_code(reference::check_small(file)), "{what}: {file:02x?}");
+    assert!(is_breach(code) || code == check(file), "{what}: {file:02x?}");
+    code
+}
+
+/// Whether a code is a refusal with 19.
+fn is_breach(code: u64) -> bool {
+    code >> 32 == 19
 }
 
 /// Both checkers on one file with a list.
@@ -137,6 +152,53 @@ fn lists() {
     assert_eq!(reply_code(Reply::Refused { number: 18, place: 1 << 32 }), 18 << 32 | 0xFFFF_FFFF);
 }
 
+/// Files at the small limits and past them, with faults before and behind; then files of any sort.
+#[test]
+fn small_cases() {
+    let (mut accepted, mut refused, mut behind) = (0, [0; 20], [0; 13]);
+    for (index, case) in small(11, 6000).enumerate() {
+        match same_small(&case.bytes, &format!("case {index}")) {
+            0 => accepted += 1,
+            code => refused[(code >> 32) as usize] += 1,
+        }
+        if is_breach(check_small(&case.bytes)) {
+            behind[(same_reply(&case.bytes, "behind a breach") >> 32) as usize] += 1;
+        }
+    }
+    assert!(accepted >= 1200 && refused[19] >= 1200, "{accepted} {refused:?}");
+    assert!(refused[1..=12].iter().all(|count| *count >= 50), "{refused:?}");
+    assert!([0, 3, 4, 5, 6, 7, 8, 9, 11, 12].iter().all(|number| behind[*number] >= 4), "{behind:?}");
+    for (index, case) in cases(12, 4000).enumerate() {
+        same_small(&case.bytes, &format!("another case {index}"));
+    }
+}
+
+/// The sample with zeros after it in every size near the limit and near the greatest, with each number in the place of the length of its
+/// explicit set and of its step count.
+#[test]
+fn small_limits() {
+    let lengthened = |length: usize| {
+        let mut file = sample("sample");
+        file.resize(length, 0);
+        mend_length(&mut file);
+        file
+    };
+    for length in (234..300).chain(16_300..16_400).chain(65_500..65_540) {
+        let mut file = lengthened(length);
+        let code = same_small(&file, "lengthened");
+        assert_eq!(is_breach(code), (16_385..=65_536).contains(&length), "{length}");
+        file[3] ^= 1;
+        assert_eq!(same_small(&file, "a wrong length field"), 1 << 32);
+    }
+    for (length, place) in [(234, 136), (16_384, 136), (16_384, 88)] {
+        let mut file = lengthened(length);
+        for number in 0..=u16::MAX {
+            file[place..place + 2].copy_from_slice(&number.to_be_bytes());
+            same_small(&file, "another number");
+        }
+    }
+}
+
 /// Whether a round's code is the step to go on from.
 fn goes_on(code: u64) -> bool {
     code != 0 && code >> 32 == 0
@@ -230,10 +292,12 @@ fn truncations() {
     for length in 0..file.len() {
         let mut part = file[..length].to_vec();
         assert_ne!(same_reply(&part, "cut"), 0);
+        same_small(&part, "cut");
         same_answer(&part, 0, 0, "cut");
         if length >= 4 {
             part[..4].copy_from_slice(&(length as u32 - 4).to_be_bytes());
             assert_ne!(same_reply(&part, "cut with a length"), 0);
+            same_small(&part, "cut with a length");
             same_answer(&part, 0, 0, "cut with a length");
         }
     }
@@ -264,6 +328,7 @@ fn samples() {
             for change in [1, 2, 4, 8, 16, 32, 64, 128, 255] {
                 file[at] = byte ^ change;
                 same_reply(&file, name);
+                same_small(&file, name);
                 same_answer(&file, 3, 1, name);
             }
             file[at] = byte;
@@ -277,6 +342,7 @@ fn samples() {
 fn two_sets() {
     let mut file = sample("two_sets");
     assert_eq!(same_reply(&file, "two_sets"), 0);
+    assert_eq!(same_small(&file, "two_sets"), 19 << 32);
     for entry in 3..6 {
         for state in [0, 1, 2046, 2047, 2048, 2049, 4095, 4096, 4097, 16_383, 16_384] {
             same_answer(&file, entry, state, "two_sets");
