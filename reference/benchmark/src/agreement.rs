@@ -3,7 +3,7 @@
 use reference::{Answer, Reply};
 
 use crate::earlier::Build;
-use crate::files::{Question, Timed};
+use crate::files::{Limited, Question, Timed};
 use crate::proved;
 
 /// The reply to a file.
@@ -14,6 +14,17 @@ pub fn reply(file: &Timed) -> Result<Reply, String> {
     }
     let Timed { name, expected, .. } = file;
     Err(format!("{name}: the proved checker says {ours}, the reference {other}; expected is {expected}"))
+}
+
+/// The reply to a file by the small limits.
+pub fn small(limited: &Limited) -> Result<Reply, String> {
+    let Limited { file, small } = limited;
+    let (ours, other) = (proved::reply(file.proved_small()), file.reference_small());
+    if ours == other && ours == *small {
+        return Ok(ours);
+    }
+    let said = format!("the proved checker says {ours}, the reference {other}; expected is {small}");
+    Err(format!("{} by the small limits: {said}", file.name))
 }
 
 /// An earlier build replies as this one does, where it can be called.

@@ -48,6 +48,16 @@ impl Timed {
         }
     }
 
+    /// The code of the proved checker's reply by the small limits.
+    pub fn proved_small(&self) -> u64 {
+        proved::check_small(&self.bytes)
+    }
+
+    /// The reference checker's reply by the small limits.
+    pub fn reference_small(&self) -> Reply {
+        reference::check_small(&self.bytes)
+    }
+
     /// The proved checker's reply by rounds of so many steps, and how many rounds there were.
     pub fn proved_in_rounds(&self, steps: u64) -> (Reply, usize) {
         run(|from| proved::round(proved::check_round(&self.bytes, from, steps)))
@@ -86,6 +96,52 @@ pub fn without_and_with_list() -> [Timed; 2] {
     let name = format!("{}, a list of rule numbers", without.name);
     let with = Timed { numbers: Some(numbers), ..Timed::new(name, bytes, Reply::Accepted) };
     [without, with]
+}
+
+/// A file, and the reply that it must get by the small limits.
+pub struct Limited {
+    pub file: Timed,
+    pub small: Reply,
+}
+
+impl Limited {
+    /// A file that the full check accepts.
+    fn new(name: &str, draft: &Draft, small: Reply) -> Limited {
+        Limited { file: Timed::accepted(name, draft), small }
+    }
+}
+
+/// The largest files of listed states and of rule steps that the small limits allow, each with one more; and W1, which has too
+/// many bytes.
+pub fn at_small_limits() -> Vec<Limited> {
+    let breach = |place| Reply::Refused { number: 19, place };
+    let listed = growth::listed(&mut Random::new(SEED), 9, 256);
+    let rules = |steps| growth::rules(&mut Random::new(SEED), 256, steps);
+    let (one_more, steps) = (with_one_more_state(&listed), rules(257));
+    let count = steps.encode().len() - 12 * 257 - 2;
+    vec![
+        Limited::new("512 states within reach, 256 actions", &listed, Reply::Accepted),
+        Limited::new("513 states within reach, 256 actions", &one_more, breach(LIST)),
+        Limited::new("256 steps, 256 entries", &rules(256), Reply::Accepted),
+        Limited::new("257 steps, 256 entries", &steps, breach(count as u64)),
+        Limited { file: workloads().swap_remove(0), small: breach(0) },
+    ]
+}
+
+/// Where a file of 256 actions in the sample's form has the length of its explicit set.
+const LIST: u64 = 88 + 24 * (256 - 2);
+
+/// The task begins with a further fact on, which every action clears: that state is within reach too, and listed.
+fn with_one_more_state(listed: &Draft) -> Draft {
+    let mut d = listed.clone();
+    let DraftSet::Explicit(states) = &mut d.state_sets[3] else { panic!("no listed states") };
+    let used = states.iter().fold(d.goal, |used, state| used | state);
+    let fact = 1 << used.trailing_ones();
+    d.init |= fact;
+    d.actions.iter_mut().for_each(|action| action.del |= fact);
+    states.push(d.init);
+    states.sort_unstable();
+    d
 }
 
 /// How many clauses the first right leaf of a worst case has: with all 256, one check would

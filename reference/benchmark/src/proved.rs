@@ -4,6 +4,7 @@ use reference::{Answer, Reply, Round};
 
 extern "C" {
     pub(crate) fn certificate_check(file: *const u8, length: usize) -> u64;
+    pub(crate) fn certificate_check_small(file: *const u8, length: usize) -> u64;
     pub(crate) fn certificate_check_numbered(
         file: *const u8,
         length: usize,
@@ -18,6 +19,12 @@ extern "C" {
 pub fn check(file: &[u8]) -> u64 {
     // It requires nothing of the bytes, reads no others and keeps nothing.
     unsafe { certificate_check(file.as_ptr(), file.len()) }
+}
+
+/// The code of the proved checker's reply by the small limits.
+pub fn check_small(file: &[u8]) -> u64 {
+    // As above.
+    unsafe { certificate_check_small(file.as_ptr(), file.len()) }
 }
 
 /// The code of the proved checker's reply to a file with a caller's own rule numbers.

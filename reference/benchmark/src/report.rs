@@ -1,15 +1,15 @@
-//! The report: times on the workloads and the worst cases, what a list of rule numbers costs and what rounds do, how times
-//! grow, and the proved checker's stack, as Markdown. It ends at the first reply that is not as it should be. Where an
-//! earlier build of the proved checker is given, its times stand beside.
+//! The report: times on the workloads and the worst cases, what a list of rule numbers costs and what rounds and small limits do,
+//! how times grow, and the proved checker's stack, as Markdown. It ends at the first reply that is not as it should be. Where
+//! an earlier build of the proved checker is given, its times stand beside.
 
 use crate::agreement;
 use crate::earlier::Builds;
 use crate::files::{
-    deepest, questions, series, without_and_with_list, workloads, worst_cases, Question, Series, Timed,
-    ROUNDS,
+    at_small_limits, deepest, questions, series, without_and_with_list, workloads, worst_cases, Limited,
+    Question, Series, Timed, ROUNDS,
 };
 use crate::format::{count, head, ratio, row, time};
-use crate::timing::{compare, list_cost, steps_at_a_time, Pace, Pair, Times};
+use crate::timing::{compare, list_cost, small_and_full, steps_at_a_time, Pace, Pair, Times};
 use crate::{proved, stack};
 use reference::layout::MAX_STEPS;
 
@@ -29,6 +29,11 @@ pub fn print(pace: Pace, builds: Option<&Builds>) -> Result<(), String> {
     for steps in ROUNDS {
         println!("{}", rounds_row(&workloads[3], steps, pace)?);
     }
+    let small = at_small_limits();
+    println!("\n## With the small limits\n\n{}", head(&SMALL_LIMITS));
+    for limited in &small {
+        println!("{}", small_row(limited, pace)?);
+    }
     println!("\n## Growth\n\n{}", head(&with_before(&GROWTH, builds.map(|_| BEFORE))));
     for one in &series {
         print_growth(one, pace, builds)?;
@@ -38,6 +43,8 @@ pub fn print(pace: Pace, builds: Option<&Builds>) -> Result<(), String> {
     println!("{}", check_stack("check, workloads", &workloads, stack::of_file)?);
     println!("{}", check_stack("check, a list of rule numbers", &lists[1..], stack::of_file)?);
     println!("{}", check_stack("a round of all steps, workloads", &workloads, whole)?);
+    let fitting = small.iter().filter(|one| one.small == one.file.expected).map(|one| &one.file);
+    println!("{}", check_stack("check, small limits", fitting, |file| stack::of_small(&file.bytes))?);
     println!("{}", check_stack("check, growth", series.iter().flat_map(|one| &one.files), stack::of_file)?);
     println!("{}", check_stack("check, worst cases", &worst, stack::of_file)?);
     println!("{}", check_stack("check, most entries", [&deepest()], stack::of_file)?);
@@ -135,6 +142,36 @@ fn rounds_row(file: &Timed, steps: u64, pace: Pace) -> Result<String, String> {
         spread(&both),
         time(whole.second),
         ratio(whole.ratio()),
+    ]))
+}
+
+const SMALL_LIMITS: [&str; 9] = [
+    "file",
+    ">bytes",
+    "reply",
+    ">proved",
+    ">reference",
+    ">ratio",
+    ">least..greatest",
+    ">proved, full limits",
+    ">small / full",
+];
+
+/// The times by the small limits, beside those of the full check.
+fn small_row(limited: &Limited, pace: Pace) -> Result<String, String> {
+    let reply = agreement::small(limited)?;
+    agreement::reply(&limited.file)?;
+    let [both, full] = small_and_full(pace, &limited.file);
+    Ok(row(&[
+        limited.file.name.clone(),
+        count(limited.file.bytes.len()),
+        reply.to_string(),
+        time(both.first),
+        time(both.second),
+        ratio(both.ratio()),
+        spread(&both),
+        time(full.second),
+        ratio(full.ratio()),
     ]))
 }
 

@@ -4,7 +4,10 @@
 use std::arch::asm;
 
 use crate::files::Timed;
-use crate::proved::{certificate_ask, certificate_check, certificate_check_numbered, certificate_round};
+use crate::proved::{
+    certificate_ask, certificate_check, certificate_check_numbered, certificate_check_small,
+    certificate_round,
+};
 
 /// Far more than the checker uses, in words of eight bytes.
 const WORDS: usize = 1 << 17;
@@ -15,7 +18,12 @@ pub fn of_check(file: &[u8]) -> (usize, u64) {
     measured(certificate_check as *const () as usize, file, 0, 0)
 }
 
-/// The same for a file with its list, where it has one.
+/// The same by the small limits.
+pub fn of_small(file: &[u8]) -> (usize, u64) {
+    measured(certificate_check_small as *const () as usize, file, 0, 0)
+}
+
+/// The same by the full limits for a file with its list, where it has one.
 pub fn of_file(file: &Timed) -> (usize, u64) {
     let Some(numbers) = &file.numbers else { return of_check(&file.bytes) };
     let function = certificate_check_numbered as *const () as usize;

@@ -115,6 +115,18 @@ pub fn steps_at_a_time(pace: Pace, file: &Timed, steps: u64) -> [Pair; 2] {
     [1, 2].map(|who| pair(&rounds, 0, who))
 }
 
+/// What the proved checker takes for a file by the small limits: beside the reference doing the same, and beside its own check
+/// by the full ones.
+pub fn small_and_full(pace: Pace, file: &Timed) -> [Pair; 2] {
+    let time = |who: usize| match who {
+        0 => best(pace.least, || black_box(file).proved_small()),
+        1 => best(pace.least, || black_box(file).reference_small()),
+        _ => best(pace.least, || black_box(file).proved()),
+    };
+    let rounds = in_turns(pace, 3, time);
+    [1, 2].map(|who| pair(&rounds, 0, who))
+}
+
 /// Two of those that were timed in each round.
 fn pair(rounds: &[Vec<f64>], first: usize, second: usize) -> Pair {
     Pair::of(&rounds.iter().map(|times| (times[first], times[second])).collect::<Vec<_>>())

@@ -1,10 +1,12 @@
 //! Every timed file and every question gets the expected reply from both checkers, and has
 //! the size that its name says.
 
+use std::collections::BTreeSet;
+
 use benchmark::earlier::{Build, Builds};
 use benchmark::files::{
-    deepest, questions, series, without_and_with_list, workloads, worst_cases, Timed, ACTIONS, RIGHT_CLAUSES,
-    ROUNDS,
+    at_small_limits, deepest, questions, series, without_and_with_list, workloads, worst_cases, Limited,
+    Timed, ACTIONS, RIGHT_CLAUSES, ROUNDS,
 };
 use benchmark::timing::{compare, Pace};
 use benchmark::{agreement, proved, stack};
@@ -16,6 +18,7 @@ fn all() -> Vec<Timed> {
     let mut files = workloads();
     files.extend(without_and_with_list());
     files.extend(worst_cases());
+    files.extend(at_small_limits().into_iter().map(|limited| limited.file));
     files.extend(series().into_iter().flat_map(|one| one.files));
     files.push(deepest());
     files
@@ -59,7 +62,47 @@ fn both_take_the_same_rounds() {
 }
 
 #[test]
+fn both_give_the_expected_reply_by_the_small_limits() {
+    let numbers = at_small_limits().into_iter().map(|limited| match agreement::small(&limited) {
+        Ok(Reply::Accepted) => 0,
+        Ok(Reply::Refused { number, .. }) => number,
+        Err(message) => panic!("{message}"),
+    });
+    assert_eq!(numbers.collect::<Vec<u8>>(), [0, 19, 0, 19, 19]);
+    // Every other file gets the reply of the full check, or 19.
+    for file in all() {
+        let small = proved::reply(file.proved_small());
+        assert_eq!(small, file.reference_small(), "{}", file.name);
+        assert!(small == file.expected || matches!(small, Reply::Refused { number: 19, .. }));
+    }
+}
+
+/// How many states are within reach.
+fn reached(file: &File) -> usize {
+    let (mut reached, mut open) = (BTreeSet::from([file.task.init]), vec![file.task.init]);
+    while let Some(s) = open.pop() {
+        let after = file.task.actions.iter().filter(|a| a.applies(s)).map(|a| a.after(s));
+        open.extend(after.filter(|t| reached.insert(*t)));
+    }
+    reached.len()
+}
+
+#[test]
+fn files_at_the_small_limits_are_as_large_as_they_say() {
+    let files: Vec<File> = at_small_limits().iter().map(|limited| read(&limited.file)).collect();
+    for (file, states) in [(&files[0], 512), (&files[1], 513)] {
+        assert_eq!((file.states.len(), reached(file), file.task.actions.len()), (states, states, 256));
+    }
+    for (file, steps) in [(&files[2], 256), (&files[3], 257)] {
+        assert_eq!((file.steps.len(), file.state_sets.len()), (steps, 256));
+    }
+}
+
+#[test]
 fn another_reply_than_expected_is_an_error() {
+    let limited = Limited { file: deepest(), small: Reply::Accepted };
+    let message = agreement::small(&limited).expect_err("the file is refused");
+    assert!(message.contains("refused 10 0; expected is accepted"), "{message}");
     let mut file = deepest();
     file.expected = Reply::Accepted;
     let message = agreement::in_rounds(&file, 16).expect_err("the file is refused");
@@ -175,6 +218,11 @@ fn stack_is_measured_by_the_same_call() {
     let [_, listed] = without_and_with_list();
     assert_eq!(stack::of_file(&listed).1, listed.proved());
     assert_eq!(stack::of_file(&tower), stack::of_check(&tower.bytes));
+    for limited in at_small_limits() {
+        let (bytes, code) = stack::of_small(&limited.file.bytes);
+        assert_eq!(code, limited.file.proved_small());
+        assert!(bytes >= 8);
+    }
     for (from, count) in [(0, 3), (3, 2048), (8, 1)] {
         let (bytes, code) = stack::of_round(&workloads()[1].bytes, from, count);
         assert_eq!(code, proved::check_round(&workloads()[1].bytes, from, count));
