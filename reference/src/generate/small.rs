@@ -7,7 +7,7 @@ use crate::file::Clause;
 use crate::generate::limits::{fill, many_rules};
 use crate::generate::random::Random;
 use crate::generate::{certificate, mutate, plain_file, Call, Case};
-use crate::layout::{Limits, MAX_CLAUSES};
+use crate::layout::{Limits, MAX_CLAUSES, MAX_STATE_SETS};
 use crate::task::Action;
 
 const SMALL: Limits = Limits::SMALL;
@@ -84,8 +84,15 @@ fn listed(random: &mut Random, count: usize) -> Draft {
     d
 }
 
-/// Adds a few entries that no step names, among them, where asked for, long lists of states.
+/// Adds a few entries that no step names, among them, where asked for, long lists of states; now and then as many as there may
+/// be, or one more, which no small limit counts.
 fn add_entries(random: &mut Random, d: &mut Draft, long: bool) {
+    if random.chance(5) {
+        let count =
+            random.pick(&[MAX_STATE_SETS / 2 + 1, MAX_STATE_SETS, MAX_STATE_SETS, MAX_STATE_SETS + 1]);
+        d.state_sets.resize(count.max(d.state_sets.len()), DraftSet::Empty);
+        return;
+    }
     for _ in 0..random.below(5) {
         let before = d.state_sets.len() as u16;
         let set = match random.below(6) {
@@ -140,16 +147,16 @@ fn add_bytes(random: &mut Random, d: &mut Draft, bytes: usize) {
 fn damaged(random: &mut Random, mut d: Draft) -> Vec<u8> {
     match random.below(20) {
         0..=9 => d.encode(),
-        10..=13 => {
+        10..=12 => {
             spoil(random, &mut d);
             d.encode()
         }
-        14 => {
+        13 => {
             mutate::draft(random, &mut d);
             d.encode()
         }
-        15 | 16 => mutate::bytes(random, &d),
-        17 | 18 => restated(random, &d),
+        14 | 15 => mutate::bytes(random, &d),
+        16..=18 => restated(random, &d),
         _ => with_wrong_length(random, d.encode()),
     }
 }
@@ -189,7 +196,7 @@ fn restated(random: &mut Random, d: &Draft) -> Vec<u8> {
     let (place, number) = match some_list(random, d).filter(|_| random.chance(50)) {
         Some(set) => {
             let states = random.pick(&[511, 512, 513, 513, 514, 1024, 4096, 4097]);
-            (place_of(d, set), 1 + 8 * states + random.pick(&[0, 0, 0, 1]))
+            (place_of(d, set), 1 + 8 * states + random.pick(&[0, 0, 1, 7]))
         }
         None => {
             let place = bytes.len() - 12 * d.steps.len() - 2;
