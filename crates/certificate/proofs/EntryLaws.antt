@@ -127,7 +127,11 @@ module _ {A : Type 0} (bytes : List ℕ) where
     say-ascending : (size most : ℕ) (read : ℕ → Result ℕ) → Stands bytes size (numberAt size bytes) read → (make : List ℕ → A)
         → ((p len : ℕ) (xs : List ℕ) → length xs ≡ len / size → Items bytes size (numberAt size bytes) (p + 3) xs → P p len (make xs))
         → KindSays P
-        (record { fits = upTo size most; allowed = λ _. true; body = λ p len. ascending read size 0 p (len / size) >>= λ xs. found (make xs) })
+        (record {
+          fits = upTo size most;
+          allowed = λ _. true;
+          body = λ p len. ascending read size 0 p (len / size) >>= λ xs. found (make xs);
+        })
     say-ascending size most read stands make h p len x b t e =
         bind-case (ascending read size 0 (p + 3) (len / size)) _ x e λ xs xs! q.
         say-list size (numberAt size bytes) read stands make h p len x b xs (ascending-items read size (len / size) 0 (p + 3) xs xs!) q

@@ -134,7 +134,8 @@ module _ (bytes : List ℕ) (n : ℕ) {A : Type 0} (kinds : List (Kind A)) (form
 
         -- the body, as a part of the file from place p + 3 to the entry's end
         pub entry-body : not w ≡ false → not v ≡ false → (size : ℕ) → size ≡ len - 1
-            → {r : Fault} → r ≡ faultFrom (p + 3) (formBody (take size (drop (p + 3) bytes)) n f 0 (length (take size (drop (p + 3) bytes))))
+            → {r : Fault}
+            → r ≡ faultFrom (p + 3) (formBody (take size (drop (p + 3) bytes)) n f 0 (length (take size (drop (p + 3) bytes))))
             → r ≡ fault (entry bytes kinds p)
         entry-body y x size z r =
             let h = entry-ends b in

@@ -141,7 +141,8 @@ module _ (l : Limits) (bytes : List ℕ) (t : Task) where
   module _ (ac sc kc : ℕ) (es : List ActionSet × ℕ) (ss : List StateSet × ℕ) (ks : List Step) (ac! : count bytes 0 256 start ≡ found ac)
       (es! : entries bytes (actionKinds bytes (length (t .actions))) 0 (start + 2) ac ≡ found es)
       (sc! : count bytes 0 512 (es .1) ≡ found sc)
-      (ss! : entries bytes (stateKinds bytes (l .states) (t .facts) ac) 0 (es .1 + 2) sc ≡ found ss) (kc! : count bytes 1 2048 (ss .1) ≡ found kc)
+      (ss! : entries bytes (stateKinds bytes (l .states) (t .facts) ac) 0 (es .1 + 2) sc ≡ found ss)
+      (kc! : count bytes 1 2048 (ss .1) ≡ found kc)
       (ks! : items (step bytes) 12 (ss .1 + 2) kc ≡ found ks) where
     places-are : placesOf bytes (record { task = t; actionSets = es .0; stateSets = ss .0; steps = ks }) ≡ placed (es .1) (ss .1)
     unfolding placesOf

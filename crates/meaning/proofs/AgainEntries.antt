@@ -77,7 +77,11 @@ module _ (bytes : List ℕ) (h : AreBytes bytes) where
     again-ascending : {j : ℕ} (size most : ℕ) (read : ℕ → Result ℕ) → Again bytes (bytesOf size) size read
         → (make : List ℕ → A) → ((xs : List ℕ) → Is j (each (bytesOf size) xs) (make xs))
         → KindAgain j
-        (record { fits = upTo size most; allowed = λ _. true; body = λ p len. ascending read size 0 p (len / size) >>= λ xs. found (make xs) })
+        (record {
+          fits = upTo size most;
+          allowed = λ _. true;
+          body = λ p len. ascending read size 0 p (len / size) >>= λ xs. found (make xs);
+        })
     again-ascending size most read again = again-list (bytesOf size) size most (λ p k. ascending read size 0 p k)
         (λ k. ascending-again bytes (bytesOf size) size read again k 0)
 

@@ -197,7 +197,8 @@ module _ (bytes : List ℕ) where
   unfolding actionKinds actionKind actionBody
   action-holds m b i all l h = plain-holds bytes refl
   action-holds m b i (listed is) l h =
-      ascending-holds bytes 2 256 m _ (omega arith) (omega arith) (reference bytes m) (reference-back bytes m b) listed refl is h (λ _ _. tt)
+      ascending-holds bytes 2 256 m _ (omega arith) (omega arith) (reference bytes m) (reference-back bytes m b) listed refl is h
+      (λ _ _. tt)
   action-holds m b i (either a c) l h = two-holds bytes either i i a c (omega arith) (omega arith) h refl
 
   basic-holds : (most n m i : ℕ) → n ≤ 64 → (x : Basic) → FitsBasic n x → listedStates (basic x) ≤ most
@@ -235,5 +236,5 @@ module _ (bytes : List ℕ) where
       → entries bytes (stateKinds bytes most n m) 0 p (length ss) ≡ found (ss, p + length (each writeStateSet ss))
   unfolding writeStateSet
   state-sets-back most n m b b′ ss few h p rest w =
-      entries-back bytes (FitsWithin most n m) stateKind stateBody (stateKinds bytes most n m) 65536 (state-holds most n m b (omega arith)) ss 0
-      (omega arith) h p rest w
+      entries-back bytes (FitsWithin most n m) stateKind stateBody (stateKinds bytes most n m) 65536 (state-holds most n m b (omega arith))
+      ss 0 (omega arith) h p rest w

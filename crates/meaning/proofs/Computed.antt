@@ -32,8 +32,8 @@ use Rattle.meaning.specs.Cases.{sample, cases}
 unfoldable pub computed : Unit {0}
 unfolding allOn without actionAt isInit isGoal applies after member every _>>=_ need known bigEndian number inside actionSetAt
     stateSetAt stepAt actionKind basicKind stateKind first second firstAction secondAction onesIn hornRule twoCnfRule items ascending
-    field count mask reference action clause step upTo plain one two clauses actionKinds stateKinds entry entries readTask readWithin readFile
-    allBelow someBelow rounds settled actionNode inActions meets inBasic someAction progressed regressed stateNode inSet statesWithin
+    field count mask reference action clause step upTo plain one two clauses actionKinds stateKinds entry entries readTask readWithin
+    readFile allBelow someBelow rounds settled actionNode inActions meets inBasic someAction progressed regressed stateNode inSet statesWithin
     actionsWithin keep theOnly kindAt child leafNode leaves isBasic isComplement isLiteral literalKind complements others movedLeft
     movedRight bracket used ofLiterals ofClauses ofStates permitted shape₁ shapeWith shape₂ shape₃ mixed shape₄ statements rules
     patternKind noLetters _then_ given withLetter standsFor ofKind ofActionKind matchᴬ match matchEntries matchStep matchPremises

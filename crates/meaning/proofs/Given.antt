@@ -145,8 +145,8 @@ give-clauses bytes P n rule make h p len x t _ e =
 give-ascending : {A : Type 0} (P : A → Type 0) (Q : ℕ → Type 0) (read : ℕ → Result ℕ) → Gives Q read → (size most : ℕ) (allow : ℕ → Bool)
     → (make : List ℕ → A)
     → ((xs : List ℕ) (len : ℕ) → length xs ≡ len / size → T (allow len) → (length xs ≤ most) × Ascending 0 xs × All Q xs → P (make xs))
-    → (p len : ℕ) (x : A) → T (upTo size most len) → T (allow len) → (ascending read size 0 p (len / size) >>= λ xs. found (make xs)) ≡ found x
-    → P x
+    → (p len : ℕ) (x : A) → T (upTo size most len) → T (allow len)
+    → (ascending read size 0 p (len / size) >>= λ xs. found (make xs)) ≡ found x → P x
 give-ascending P Q read g size most allow make h p len x t u e =
     bind-case (ascending read size 0 p (len / size)) _ x e λ xs xs! q.
     let r = ascending-give Q read size g (len / size) 0 0 p xs xs! in
@@ -213,7 +213,7 @@ pub action-sets-give : (bytes : List ℕ) (m k p : ℕ) (r : List ActionSet × �
 action-sets-give bytes m k p = entries-give bytes (FitsActionSet m) (actionKinds bytes m) (action-kinds-give bytes m) k 0 p
 
 -- k state sets of a file with n facts and m action sets
-pub state-sets-give : (bytes : List ℕ) (most n m k p : ℕ) (r : List StateSet × ℕ) → entries bytes (stateKinds bytes most n m) 0 p k ≡ found r
-    → (length (r .0) ≡ k) × AllFrom (FitsWithin most n m) 0 (r .0)
+pub state-sets-give : (bytes : List ℕ) (most n m k p : ℕ) (r : List StateSet × ℕ)
+    → entries bytes (stateKinds bytes most n m) 0 p k ≡ found r → (length (r .0) ≡ k) × AllFrom (FitsWithin most n m) 0 (r .0)
 state-sets-give bytes most n m k p =
     entries-give bytes (FitsWithin most n m) (stateKinds bytes most n m) (state-kinds-give bytes most n m) k 0 p

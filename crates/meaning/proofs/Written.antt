@@ -137,8 +137,8 @@ certificate-reads l table t es ss ks law h a short small =
     let b : List ℕ = fileOf table c in
     let n : length b ≡ 4 + (length table + length c) = length-file table c in
     let w : At b (4 + length table) c = at-next b 4 table c (file-at table c) (4 + length table) refl in
-    certificate-back l b t (4 + length table) es ss ks (omega arith) short small (file-number table c short) (lawful-reads table c t law) h a
-    (subst (At b (4 + length table)) (sym (append-nil c)) w)
+    certificate-back l b t (4 + length table) es ss ks (omega arith) short small (file-number table c short) (lawful-reads table c t law)
+    h a (subst (At b (4 + length table)) (sym (append-nil c)) w)
 
 -- a file that fits is read back
 pub reads-back : (l : Limits) (f : File) → Fits l f → length (writeFile f) ≤ full .size → length (writeFile f) ≤ l .size

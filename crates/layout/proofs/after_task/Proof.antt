@@ -27,8 +27,8 @@ returns-3 c =
     let u16-at! = c .before .before .before .before .before .before .before .before .u16-at in
     let second2! = c .before .before .before .before .before .second2 in
     let counted2! = c .before .before .before .before .before .before .before .counted2 in
-    third-bad (a .file .now) (a .limits) (a .facts) (a .actions) (first2! .given .1) (counted! .ensures) (u16-at! .ensures) (second2! .given .1)
-    (counted2! .ensures)
+    third-bad (a .file .now) (a .limits) (a .facts) (a .actions) (first2! .given .1) (counted! .ensures) (u16-at! .ensures)
+    (second2! .given .1) (counted2! .ensures)
     (c .before .third .given .1) (c .before .before .before .steps .ensures)
 
 returns-4 : tie.Need-returns-4
@@ -39,8 +39,8 @@ returns-4 c =
     let u16-at! = c .before .before .before .before .before .before .before .u16-at in
     let second2! = c .before .before .before .before .second2 in
     let counted2! = c .before .before .before .before .before .before .counted2 in
-    all-good (a .file .now) (a .limits) (a .facts) (a .actions) (first2! .given .1) (counted! .ensures) (u16-at! .ensures) (second2! .given .1)
-    (counted2! .ensures)
+    all-good (a .file .now) (a .limits) (a .facts) (a .actions) (first2! .given .1) (counted! .ensures) (u16-at! .ensures)
+    (second2! .given .1) (counted2! .ensures)
     (c .enum-told .given .1) (c .before .before .steps .ensures)
 
 pub after-task-spec : {M : Type 1} → statement M

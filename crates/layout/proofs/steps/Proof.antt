@@ -26,7 +26,8 @@ returns-2 c =
     let w = t .before in
     let v = w .before .before in
     let a = v .before .before .before .before .args in
-    steps-short (a .file .now) (a .most) (a .place) (v .enum-told .given .1) (v .before .before .step-count .ensures) (w .before .u16-at .ensures)
+    steps-short (a .file .now) (a .most) (a .place) (v .enum-told .given .1) (v .before .before .step-count .ensures)
+    (w .before .u16-at .ensures)
     (steps-told (a .file .now) (w .before .u16-at .result) (a .place + 2) (t .told .ensures) (w .walk .ensures)) (c .before .w .given .1)
 
 returns-3 : tie.Need-returns-3
@@ -35,7 +36,8 @@ returns-3 c =
     let w = t .before in
     let v = w .before .before in
     let a = v .before .before .before .before .args in
-    steps-more (a .file .now) (a .most) (a .place) (v .enum-told .given .1) (v .before .before .step-count .ensures) (w .before .u16-at .ensures)
+    steps-more (a .file .now) (a .most) (a .place) (v .enum-told .given .1) (v .before .before .step-count .ensures)
+    (w .before .u16-at .ensures)
     (steps-told (a .file .now) (w .before .u16-at .result) (a .place + 2) (t .told .ensures) (w .walk .ensures))
     (c .before .before .w2 .given .1) (search needs)
 
@@ -45,7 +47,8 @@ returns-4 c =
     let w = t .before in
     let v = w .before .before in
     let a = v .before .before .before .before .args in
-    steps-end (a .file .now) (a .most) (a .place) (v .enum-told .given .1) (v .before .before .step-count .ensures) (w .before .u16-at .ensures)
+    steps-end (a .file .now) (a .most) (a .place) (v .enum-told .given .1) (v .before .before .step-count .ensures)
+    (w .before .u16-at .ensures)
     (steps-told (a .file .now) (w .before .u16-at .result) (a .place + 2) (t .told .ensures) (w .walk .ensures))
     (c .before .before .w2 .given .1) (search needs)
 

@@ -9,7 +9,8 @@ use Rattle.question.proofs.ask.Statement.{statement}
 use Rattle.question.proofs.ask.Tie as tie
 
 -- where the file is lawful, these are its places
-placed : (c : tie.After-known-told2) → Placed (c .before .before .before .before .before .before .args .file .now) (c .before .at .given .0 .0)
+placed : (c : tie.After-known-told2)
+    → Placed (c .before .before .before .before .before .before .args .file .now) (c .before .at .given .0 .0)
 placed c = lawful-placed _ _ (c .before .before .before .read-layout .ensures) _ (c .before .at .given .1)
 
 answer-requires : tie.Need-answer-requires
@@ -18,7 +19,8 @@ answer-requires c κs = let v = c .before in (placed (v .before), v .index-of .e
 returns : tie.Need-returns
 returns c =
     let v = c .before .before .before in
-    (unread-answer _ _ _ _ _ (refused-full _ _ (v .read-layout .ensures) (v .before .full-limits .ensures) _ _ (c .before .number .given .1)), refl)
+    let r = refused-full _ _ (v .read-layout .ensures) (v .before .full-limits .ensures) _ _ (c .before .number .given .1) in
+    (unread-answer _ _ _ _ _ r, refl)
 
 returns-2 : tie.Need-returns-2
 returns-2 c = (c .answer .ensures ∙ read-answer _ _ _ _ (placed (c .before .before .before) .read), refl)

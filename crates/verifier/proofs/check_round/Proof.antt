@@ -17,13 +17,12 @@ round-of-requires c κs =
 
 returns : tie.Need-returns
 returns c =
-    let o = c .before .before .before in (
-      unread-round _ _ _ _ _ (refused-full _ _ (o .read-layout .ensures) (o .before .full-limits .ensures) _ _ (c .before .number .given .1)),
-      refl,
-    )
+    let o = c .before .before .before in
+    let r = refused-full _ _ (o .read-layout .ensures) (o .before .full-limits .ensures) _ _ (c .before .number .given .1) in
+    (unread-round _ _ _ _ _ r, refl)
 
 pub check-round-spec : {M : Type 1} → statement M
 check-round-spec =
     tie.close (tie.spec
-    (λ c κs. search needs) (λ c κs. search needs) (λ c. search needs) (λ c. search needs) (λ c. search needs) index-of-requires round-of-requires
-    returns (λ c. search needs))
+    (λ c κs. search needs) (λ c κs. search needs) (λ c. search needs) (λ c. search needs) (λ c. search needs) index-of-requires
+    round-of-requires returns (λ c. search needs))
