@@ -20,8 +20,8 @@ uint64_t certificate_check(const uint8_t *file, size_t length);
    certificate_check's, so what is accepted here is accepted there. */
 uint64_t certificate_check_small(const uint8_t *file, size_t length);
 
-/* The same as certificate_check for a file with the caller's own rule numbers: `numbers` is a list of 28 bytes from 1 to 255, no two of them equal, the
-   k-th being the number that the file uses for rule k. A number that the list lacks is an unknown rule. A list of another length is
+/* certificate_check for a file with the caller's own rule numbers: `numbers` is a list of 28 bytes from 1 to 255, no two of them equal,
+   the k-th being the number that the file uses for rule k. A number that the list lacks is an unknown rule. A list of another length is
    refused with 18 and its length as place; then one with a zero, or a number used before, with 18 at the first such byte, counted
    from 0. Both come before the file is read. */
 uint64_t certificate_check_numbered(const uint8_t *file, size_t length, const uint8_t *numbers, size_t count);
