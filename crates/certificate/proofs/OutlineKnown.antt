@@ -17,7 +17,7 @@ use Rattle.certificate.specs.Views.{placesOf, outlineOf, outlineTo}
 use Rattle.certificate.specs.Known.{decoded, readOr, Placed}
 
 module _ (l : Limits) (bytes : List ℕ) {o : Outline} (e : o ≡ outlineOf l bytes) where
-  -- both by its limits and by document 01's
+  -- a lawful file is read by these limits, and by document 01's
   lawful : (at : Places) → o ≡ outline.Lawful at → Placed bytes at × (readWithin l bytes ≡ found (decoded bytes))
   unfolding outlineOf outlineTo decoded readOr
   lawful at g = go (readWithin l bytes) refl

@@ -244,7 +244,7 @@ module _ (l : Limits) (room : Roomy l) (table : List ℕ) (t : Task) (lawful : L
   reads =
       let m = room .most in
       let n = short in
-      certificate-reads l table t theActionSets (theStateSets ss) theSteps lawful fits allowed (omega arith) n
+      certificate-reads l table t theActionSets (theStateSets ss) theSteps lawful fits allowed (omega arith, n)
 
   accepted : Unsolvable t → replyWithin l (fileOf table (certificateOf ss)) ≡ Accepted
   unfolding replyWithin replyTo

@@ -15,7 +15,7 @@ use Rattle.meaning.specs.declared.Limits.{Limits}
 use Rattle.meaning.specs.Limits.{full}
 use Rattle.meaning.specs.Layout.{items, field, count, mask, action, step, actionKinds, stateKinds, entries, readTask, readWithin}
 use Rattle.meaning.specs.Layout.{readFile}
-use Rattle.meaning.specs.Writing.{AllFrom, All, FitsAction, FitsTask, FitsActionSet, FitsStateSet, FitsStep, listedStates, Allowed, Fits}
+use Rattle.meaning.specs.Writing.{AllFrom, All, FitsAction, FitsTask, FitsActionSet, FitsStateSet, FitsStep, listedStates, Allowed, Fits, FitsSize}
 use Rattle.meaning.proofs.Results.{found-same, bind-case, need-case, and-out}
 use Rattle.meaning.proofs.Numbers.{number-lt}
 use Rattle.meaning.proofs.Given.{Gives, mask-gives, count-gives, action-gives, items-give, action-sets-give, state-sets-give}
@@ -229,19 +229,23 @@ unfolding readFile
 file-read bytes f e = read-with full bytes (λ s. length (s .premises) ≡ 3) (three-gives bytes) f e .0
 
 -- a file that is read from bytes is within the limits
-pub reads-within : (l : Limits) (bytes : List ℕ) (f : File) → AreBytes bytes → readWithin l bytes ≡ found f → Fits l f
+pub reads-within : (l : Limits) (bytes : List ℕ) (f : File) → AreBytes bytes → readWithin l bytes ≡ found f
+    → Fits l f × FitsSize l (length bytes)
 reads-within l bytes f h e =
     let r = read-with l bytes FitsStep (step-gives bytes h) f e in
-    record {
-      task = r .0 .task;
-      certificate = record {
-        few-action-sets = r .0 .few-action-sets;
-        action-sets = r .0 .action-sets;
-        few-state-sets = r .0 .few-state-sets;
-        state-sets = r .0 .state-sets;
-        some-steps = r .0 .some-steps;
-        few-steps = r .0 .few-steps;
-        steps = r .2;
-      };
-      allowed = r .1;
-    }
+    let w = within-walked l bytes f e in (
+      record {
+        task = r .0 .task;
+        certificate = record {
+          few-action-sets = r .0 .few-action-sets;
+          action-sets = r .0 .action-sets;
+          few-state-sets = r .0 .few-state-sets;
+          state-sets = r .0 .state-sets;
+          some-steps = r .0 .some-steps;
+          few-steps = r .0 .few-steps;
+          steps = r .2;
+        };
+        allowed = r .1;
+      },
+      (w .short, w .allowed-size),
+    )

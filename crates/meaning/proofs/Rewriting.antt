@@ -72,7 +72,7 @@ module _ (g : ℕ → ℕ) where
     fits : Fits full (rewritten g f)
     unfolding rewritten readFile
     fits =
-        let h = reads-within full bytes f b r in
+        let h = reads-within full bytes f b r .0 in
         let c = h .certificate in
         let n = count-stays g (f .steps) in
         record {
@@ -99,7 +99,7 @@ module _ (g : ℕ → ℕ) where
     read-rewritten =
         let n : length (writeFile (rewritten g f)) ≡ length bytes = same-length f ∙ ap length (writes-back bytes f b r) in
         let short = file-walked bytes f r .short in
-        ap readFile written ∙ reads-back full (rewritten g f) fits (omega arith) (omega arith)
+        ap readFile written ∙ reads-back full (rewritten g f) fits (omega arith, omega arith)
 
     bytes-rewritten : AreBytes (rewriteBytes g bytes)
     bytes-rewritten = subst AreBytes (sym written) (file-bytes full (rewritten g f) fits)

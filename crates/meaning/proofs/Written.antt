@@ -16,7 +16,7 @@ use Rattle.meaning.specs.Limits.{full}
 use Rattle.meaning.specs.Layout.{action, step, readTask, readWithin}
 use Rattle.meaning.specs.Writing.{each, writeAction, writeActionSet, writeStateSet, writeStep, counted, writeTask, writeCertificate}
 use Rattle.meaning.specs.Writing.{fileOf, writeFile, AllFrom, FitsAction, FitsTask, FitsStateSet, FitsStep, FitsCertificate}
-use Rattle.meaning.specs.Writing.{listedStates, Allowed, Fits, Lawful}
+use Rattle.meaning.specs.Writing.{listedStates, Allowed, Fits, FitsSize, Lawful}
 use Rattle.meaning.proofs.Results.{bind-in, need-in, and-in}
 use Rattle.meaning.proofs.Numbers.{length-bytesOf}
 use Rattle.meaning.proofs.Reading.{task-fits}
@@ -83,12 +83,12 @@ both-of P Q i (x ∷ xs) h k = ((h .0, k .0), both-of P Q (suc i) xs (h .1) (k .
 
 -- a certificate that stands behind the task is read back
 certificate-back : (l : Limits) (b : List ℕ) (t : Task) (q : ℕ) (es : List ActionSet) (ss : List StateSet) (ks : List Step)
-    → 4 ≤ length b → length b ≤ full .size → length b ≤ l .size → number 4 b 0 + 4 ≡ length b → readTask b ≡ found (t, q)
+    → 4 ≤ length b → FitsSize l (length b) → number 4 b 0 + 4 ≡ length b → readTask b ≡ found (t, q)
     → FitsCertificate t es ss ks → Allowed l ss ks
     → At b q (writeCertificate es ss ks ++ [])
     → readWithin l b ≡ found (record { task = t; actionSets = es; stateSets = ss; steps = ks })
 unfolding readWithin writeCertificate counted
-certificate-back l b t q es ss ks low high small size t! h a w =
+certificate-back l b t q es ss ks low fits size t! h a w =
     let ft : FitsTask t = task-fits b t q t! in
     let w₀ : At b q (bytesOf 2 (length es) ++ (each writeActionSet es
     ++ (bytesOf 2 (length ss) ++ (each writeStateSet ss ++ (bytesOf 2 (length ks) ++ (each writeStep ks ++ [])))))) =
@@ -104,9 +104,9 @@ certificate-back l b t q es ss ks low high small size t! h a w =
     let last : length b ≤ q₂ + 2 + 12 * length ks = (let s = w₅ .size in let n = length-append (each writeStep ks) [] in omega arith) in
     let sets = both-of (FitsStateSet (t .facts) (length es)) (λ _ x. listedStates x ≤ l .states) 0 ss (h .state-sets) (a .states) in
     bind-in _ (need-in _ 1 0 (and-in (leb 4 (length b)) (leb (length b) (full .size)) (le→leb 4 (length b) low)
-    (le→leb (length b) (full .size) high)))
+    (le→leb (length b) (full .size) (fits .0))))
     (bind-in _ (need-in _ 1 0 (subst (λ (x : ℕ). T (eqb (number 4 b 0 + 4) x)) size (eqb-refl (number 4 b 0 + 4))))
-    (bind-in _ (need-in _ 19 0 (le→leb (length b) (l .size) small))
+    (bind-in _ (need-in _ 19 0 (le→leb (length b) (l .size) (fits .1)))
     (bind-in _ t!
     (bind-in _ (count-back b 0 256 (omega arith) (length es) (omega arith, h .few-action-sets) q _ w₀)
     (bind-in _ (action-sets-back b (length (t .actions)) (ft .few-actions) es (h .few-action-sets) (h .action-sets) (q + 2) _ w₁)
@@ -129,21 +129,19 @@ file-number table certificate short =
 
 -- a certificate that fits is read back behind any lawful table
 pub certificate-reads : (l : Limits) (table : List ℕ) (t : Task) (es : List ActionSet) (ss : List StateSet) (ks : List Step)
-    → Lawful table t → FitsCertificate t es ss ks → Allowed l ss ks
-    → length (fileOf table (writeCertificate es ss ks)) ≤ full .size → length (fileOf table (writeCertificate es ss ks)) ≤ l .size
+    → Lawful table t → FitsCertificate t es ss ks → Allowed l ss ks → FitsSize l (length (fileOf table (writeCertificate es ss ks)))
     → readWithin l (fileOf table (writeCertificate es ss ks)) ≡ found (record { task = t; actionSets = es; stateSets = ss; steps = ks })
-certificate-reads l table t es ss ks law h a short small =
+certificate-reads l table t es ss ks law h a fits =
     let c : List ℕ = writeCertificate es ss ks in
     let b : List ℕ = fileOf table c in
     let n : length b ≡ 4 + (length table + length c) = length-file table c in
     let w : At b (4 + length table) c = at-next b 4 table c (file-at table c) (4 + length table) refl in
-    certificate-back l b t (4 + length table) es ss ks (omega arith) short small (file-number table c short) (lawful-reads table c t law)
+    certificate-back l b t (4 + length table) es ss ks (omega arith) fits (file-number table c (fits .0)) (lawful-reads table c t law)
     h a (subst (At b (4 + length table)) (sym (append-nil c)) w)
 
 -- a file that fits is read back
-pub reads-back : (l : Limits) (f : File) → Fits l f → length (writeFile f) ≤ full .size → length (writeFile f) ≤ l .size
-    → readWithin l (writeFile f) ≡ found f
+pub reads-back : (l : Limits) (f : File) → Fits l f → FitsSize l (length (writeFile f)) → readWithin l (writeFile f) ≡ found f
 unfolding writeFile
-reads-back l f h short small =
+reads-back l f h size =
     certificate-reads l (writeTask (f .task)) (f .task) (f .actionSets) (f .stateSets) (f .steps) (task-lawful (f .task) (h .task))
-    (h .certificate) (h .allowed) short small
+    (h .certificate) (h .allowed) size

@@ -17,7 +17,7 @@ use Rattle.meaning.specs.File.{File, stepAt}
 use Rattle.meaning.specs.declared.Limits.{Limits}
 use Rattle.meaning.specs.Limits.{full, small}
 use Rattle.meaning.specs.Layout.{readWithin, readFile}
-use Rattle.meaning.specs.Writing.{All, Ascending, fileOf, writeFile, Fits, Lawful}
+use Rattle.meaning.specs.Writing.{All, Ascending, fileOf, writeFile, Fits, FitsSize, Lawful}
 use Rattle.meaning.specs.Sets.{inSet, statesWithin, actionsWithin}
 use Rattle.meaning.specs.Rules.{letter, rules}
 use Rattle.meaning.specs.Match.{Letters, match}
@@ -90,12 +90,10 @@ SampleForm = fileOf (take 68 (drop 4 sample)) (certificateOf (0 ∷ 1 ∷ 2 ∷ 
 
 -- What is read is within the limits, and reading what was written within them gives it back.
 abbrev pub ReadsWithin : Type 0
-ReadsWithin = (l : Limits) (bytes : List ℕ) (f : File) → AreBytes bytes → readWithin l bytes ≡ found f → Fits l f
+ReadsWithin = (l : Limits) (bytes : List ℕ) (f : File) → AreBytes bytes → readWithin l bytes ≡ found f → Fits l f × FitsSize l (length bytes)
 
 abbrev pub ReadsBack : Type 0
-ReadsBack =
-    (l : Limits) (f : File) → Fits l f → length (writeFile f) ≤ full .size → length (writeFile f) ≤ l .size
-    → readWithin l (writeFile f) ≡ found f
+ReadsBack = (l : Limits) (f : File) → Fits l f → FitsSize l (length (writeFile f)) → readWithin l (writeFile f) ≡ found f
 
 -- A file has no other bytes than those that are written of what is read.
 abbrev pub WritesBack : Type 0

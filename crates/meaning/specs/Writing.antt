@@ -183,6 +183,10 @@ pub record Fits (l : Limits) (f : File) : Type 0 where
   pub certificate : FitsCertificate (f .task) (f .actionSets) (f .stateSets) (f .steps)
   pub allowed : Allowed l (f .stateSets) (f .steps)
 
+-- the length of the whole
+abbrev pub FitsSize : Limits → ℕ → Type 0
+FitsSize l n = (n ≤ full .size) × (n ≤ l .size)
+
 -- the bytes are those of a task, whole, in which 2 to 7 find no fault. Document 01: a lawful table
 abbrev pub Lawful : List ℕ → Task → Type 0
 Lawful table t = readTask (fileOf table []) ≡ found (t, 4 + length table)
