@@ -176,7 +176,7 @@ module _ (bytes : List ℕ) where
         fits = upTo 8 (full .states);
         allowed = upTo 8 most;
         body = λ p len. do
-          ss ← ascending (mask bytes n) 8 0 p (len / 8)
+          ss ← items (mask bytes n) 8 p (len / 8)
           found (basic (explicit ss));
       }
       ∷ clauses n hornRule horn

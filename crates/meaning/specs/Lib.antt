@@ -15,7 +15,9 @@ pub mod Reply
 pub mod Numbering
 pub mod Question
 pub mod Rounds
+pub mod Structure
 pub mod Small
+pub mod Relisted
 pub mod Cases
 pub mod Certain
 pub mod Points

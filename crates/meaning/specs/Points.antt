@@ -17,7 +17,7 @@ use Rattle.meaning.specs.File.{File, stepAt}
 use Rattle.meaning.specs.declared.Limits.{Limits}
 use Rattle.meaning.specs.Limits.{full, small}
 use Rattle.meaning.specs.Layout.{readWithin, readFile}
-use Rattle.meaning.specs.Writing.{All, Ascending, fileOf, writeFile, Fits, FitsSize, Lawful}
+use Rattle.meaning.specs.Writing.{All, fileOf, writeFile, Fits, FitsSize, Lawful}
 use Rattle.meaning.specs.Sets.{inSet, statesWithin, actionsWithin}
 use Rattle.meaning.specs.Rules.{letter, rules}
 use Rattle.meaning.specs.Match.{Letters, match}
@@ -33,6 +33,7 @@ use Rattle.meaning.specs.Question.{depth, hasProgression, shallow, answe
 use Rattle.meaning.specs.Rounds.{lawfulCount, roundOf, runFrom, run, atEnd, roundsFor, Call, session, countsOf, answersOf}
 use Rattle.meaning.specs.Rounds.{premisesOf, namedSets}
 use Rattle.meaning.specs.Small.{replyWithin, replySmall, breaches, Before}
+use Rattle.meaning.specs.Relisted.{wrongIn, InState, Relisted}
 use Rattle.meaning.specs.Cases.{Case, cases, word, sample, fileBytes, explicit012, stepBytes, firstSteps, allSteps}
 use Rattle.meaning.specs.Certain.{certificateOf}
 
@@ -75,11 +76,11 @@ Certifies check states =
 abbrev pub SafeIsAccepted : Type 0
 SafeIsAccepted = Certifies replyOf 4096
 
--- That certificate is the sample's with the states within reach, ascending, as its explicit set.
+-- That certificate is the sample's with the states within reach, in any order, as its explicit set.
 abbrev pub CertifiesByList : (List ℕ → Reply) → ℕ → Type 0
 CertifiesByList check states =
     (table : List ℕ) (t : Task) (ss : List ℕ) → Lawful table t → Unsolvable t
-    → Ascending 0 ss → length ss ≤ states → ((s : ℕ) → T (member s ss) ↔ Reachable t s)
+    → length ss ≤ states → ((s : ℕ) → T (member s ss) ↔ Reachable t s)
     → AreBytes (certificateOf ss) × (check (fileOf table (certificateOf ss)) ≡ Accepted)
 
 abbrev pub CertainCertificate : Type 0
@@ -315,3 +316,46 @@ LimitCases =
 -- A refusal is one of a file, or 19.
 abbrev pub LimitRefusals : Type 0
 LimitRefusals = (l : Limits) (bytes : List ℕ) (r p : ℕ) → replyWithin l bytes ≡ Refused r p → ((1 ≤ r) × (r ≤ 12)) ⊎ (r ≡ 19)
+
+-- ---- document 02, b: explicit states in any order, with repeats
+
+-- Something said of files is the same of two that differ only in the order of the states within explicit sets, or in their repeats. But 5
+-- follows the bad state: it is refused so in the same set, in each file at the first state there that names a fact of n or above.
+abbrev pub SameInAnyOrder : {R : Type 0} → (ℕ → ℕ → R) → (List ℕ → R) → Type 0
+SameInAnyOrder refused said =
+    (a b : List ℕ) → Relisted a b
+    → (said a ≡ said b)
+    ⊎ ((e : ℕ) × (p : ℕ) × (q : ℕ) × (getElem? (wrongIn a e) 0 ≡ some p) × (getElem? (wrongIn b e) 0 ≡ some q)
+    × (said a ≡ refused 5 p) × (said b ≡ refused 5 q))
+
+-- So are the reply to a file, whatever the limits and the rule numbers, a round of it and the answer to a question.
+abbrev pub OrderAlike : Type 0
+OrderAlike = SameInAnyOrder Refused replyOf
+
+abbrev pub LimitedOrderAlike : Type 0
+LimitedOrderAlike = (l : Limits) → SameInAnyOrder Refused (replyWithin l)
+
+abbrev pub NumberedOrderAlike : Type 0
+NumberedOrderAlike = (numbers : List ℕ) → SameInAnyOrder Refused (λ bytes. replyNumbered bytes numbers)
+
+abbrev pub RoundOrderAlike : Type 0
+RoundOrderAlike = (from count : ℕ) → SameInAnyOrder round.Refused (λ bytes. roundOf bytes from count)
+
+abbrev pub AnswerOrderAlike : Type 0
+AnswerOrderAlike = (e s : ℕ) → SameInAnyOrder answer.Refused (λ bytes. answerOf bytes e s)
+
+-- 7 no longer comes from an explicit set.
+abbrev pub NoOrderFault : Type 0
+NoOrderFault = (bytes : List ℕ) (p : ℕ) → replyOf bytes ≡ Refused 7 p → InState bytes p → ⊥
+
+-- The sample with its states as 2, 0, 1 and as 1, 2, 0, 1; one short of a state, with another twice; 5 at the first state in the file that
+-- names fact 2 or above, whichever is the smallest; and a limit of three states, broken by a fourth that repeats one.
+abbrev pub OrderCases : Type 0
+OrderCases =
+    (replyOf (fileBytes 1 2 0 (0 ∷ 25 ∷ 3 ∷ word 2 ++ word 0 ++ word 1) 3 0 allSteps) ≡ Accepted)
+    × (replyOf (fileBytes 1 2 0 (0 ∷ 33 ∷ 3 ∷ word 1 ++ word 2 ++ word 0 ++ word 1) 3 0 allSteps) ≡ Accepted)
+    × (replyOf (fileBytes 1 2 0 (0 ∷ 25 ∷ 3 ∷ word 1 ++ word 0 ++ word 1) 3 0 allSteps) ≡ Refused 11 1)
+    × (replyOf (fileBytes 1 2 0 (0 ∷ 25 ∷ 3 ∷ word 9 ++ word 4 ++ word 0) 3 0 allSteps) ≡ Refused 5 91)
+    × (replyOf (fileBytes 1 2 0 (0 ∷ 25 ∷ 3 ∷ word 0 ++ word 9 ++ word 4) 3 0 allSteps) ≡ Refused 5 99)
+    × (replyWithin (record { size = 65536; states = 3; steps = 8 })
+    (fileBytes 1 2 0 (0 ∷ 33 ∷ 3 ∷ word 1 ++ word 2 ++ word 0 ++ word 1) 3 0 allSteps) ≡ Refused 19 88)

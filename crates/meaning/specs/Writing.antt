@@ -127,7 +127,7 @@ abbrev pub FitsBasic : ℕ → Basic → Type 0
 FitsBasic n empty = Unit {0}
 FitsBasic n init = Unit {0}
 FitsBasic n goal = Unit {0}
-FitsBasic n (explicit ss) = (length ss ≤ full .states) × Ascending 0 ss × All (λ s. s < 2 ^ n) ss
+FitsBasic n (explicit ss) = (length ss ≤ full .states) × All (λ s. s < 2 ^ n) ss
 FitsBasic n (horn cs) = FitsClauses n hornRule cs
 FitsBasic n (twoCnf cs) = FitsClauses n twoCnfRule cs
 
