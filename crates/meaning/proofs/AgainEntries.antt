@@ -73,7 +73,14 @@ module _ (bytes : List ℕ) (h : AreBytes bytes) where
         let d : size * (len / size) + len % size ≡ len = div-add-mod len size in
         made s (is xs) (again (len / size) p q (omega arith) xs xs!)
 
-    -- ascending numbers of `size` bytes each
+    -- items of `size` bytes each, and ascending numbers
+    again-items : {j : ℕ} {B : Type 0} (write : B → List ℕ) (size most : ℕ) (read : ℕ → Result B) → Again bytes write size read
+        → (make : List B → A) → ((xs : List B) → Is j (each write xs) (make xs))
+        → KindAgain j
+        (record { fits = upTo size most; allowed = λ _. true; body = λ p len. items read size p (len / size) >>= λ xs. found (make xs) })
+    again-items write size most read again =
+        again-list write size most (λ p k. items read size p k) (items-again bytes write size read again)
+
     again-ascending : {j : ℕ} (size most : ℕ) (read : ℕ → Result ℕ) → Again bytes (bytesOf size) size read
         → (make : List ℕ → A) → ((xs : List ℕ) → Is j (each (bytesOf size) xs) (make xs))
         → KindAgain j
@@ -159,8 +166,7 @@ module _ (bytes : List ℕ) (h : AreBytes bytes) where
       → KindAgain stateKind stateBody j (clauses bytes n rule make)
   unfolding clauses
   again-clauses n rule make =
-      again-list stateKind stateBody writeClause 16 256 (λ p k. items (clause bytes n rule) 16 p k)
-      (items-again bytes writeClause 16 (clause bytes n rule) (clause-again bytes h n rule)) (λ cs. basic (make cs))
+      again-items stateKind stateBody writeClause 16 256 (clause bytes n rule) (clause-again bytes h n rule) (λ cs. basic (make cs))
 
   state-kinds-again : (most n m i : ℕ) → AllAgain stateKind stateBody 0 (stateKinds bytes most n m i)
   unfolding stateKinds stateKind stateBody basicKind basicBody
@@ -168,7 +174,8 @@ module _ (bytes : List ℕ) (h : AreBytes bytes) where
       again-plain stateKind stateBody (basic empty) (refl, refl)
       & again-plain stateKind stateBody (basic init) (refl, refl)
       & again-plain stateKind stateBody (basic goal) (refl, refl)
-      & again-ascending stateKind stateBody 8 4096 (mask bytes n) (mask-again bytes h n) (λ ss. basic (explicit ss)) (λ ss. (refl, refl))
+      & again-items stateKind stateBody (bytesOf 8) 8 4096 (mask bytes n) (mask-again bytes h n) (λ ss. basic (explicit ss))
+      (λ ss. (refl, refl))
       & again-clauses n hornRule horn (λ cs. (refl, refl))
       & again-clauses n twoCnfRule twoCnf (λ cs. (refl, refl))
       & again-one stateKind stateBody complement i (λ a. (refl, refl))

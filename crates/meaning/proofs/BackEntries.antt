@@ -5,7 +5,7 @@ use mathlib.Core.Option.{some}
 use Prim.Native.Nat.{ℕ, suc, _+_, _-_, _*_, _/_, _%_, _^_, _≤_, _<_}
 use native.Mathlib.Nat.{mul-div-cancel-left, mul-mod-right, mul-le-mul-left}
 use native.Mathlib.Omega.{arith}
-use mathlib.Core.Bool.{Bool}
+use mathlib.Core.Bool.{Bool, true}
 use mathlib.Core.List.{List, [], _∷_, _++_, append-assoc}
 use lib.ListN.{length, getElem?, length-append}
 use lib.Dec.{T, eqb, leb, le→leb}
@@ -159,19 +159,28 @@ module _ {A : Type 0} (bytes : List ℕ) {kinds : List (Kind A)} {j : ℕ} where
       }
 
   -- ascending numbers of `size` bytes each, below a bound
-  ascending-holds : (size most bound : ℕ) (allow : ℕ → Bool) → 0 < size → suc (size * most) < 65536 → (read : ℕ → Result ℕ)
+  ascending-holds : (size most bound : ℕ) → 0 < size → suc (size * most) < 65536 → (read : ℕ → Result ℕ)
       → Back bytes (λ a. a < bound) (bytesOf size) read
       → (make : List ℕ → A) → getElem? kinds j ≡ some
-      (record { fits = upTo size most; allowed = allow; body = λ p len. ascending read size 0 p (len / size) >>= λ xs. found (make xs) })
+      (record { fits = upTo size most; allowed = λ _. true; body = λ p len. ascending read size 0 p (len / size) >>= λ xs. found (make xs) })
       → (xs : List ℕ) → (length xs ≤ most) × Ascending 0 xs × All (λ a. a < bound) xs
-      → ((len : ℕ) → len ≡ size * length xs → T (allow len))
       → Holds bytes kinds j (each (bytesOf size) xs) (make xs)
-  ascending-holds size most bound allow some-size small read back make e xs h t =
-      let n : length (each (bytesOf size) xs) ≡ size * length xs =
-      length-each (λ a. a < bound) (bytesOf size) size (λ a _. length-bytesOf size a) xs 0 (h .2) in
-      list-holds (bytesOf size) size most allow some-size small (λ p k. ascending read size 0 p k) make e xs (h .0)
-      (t (length (each (bytesOf size) xs)) n) n
+  ascending-holds size most bound some-size small read back make e xs h =
+      list-holds (bytesOf size) size most _ some-size small (λ p k. ascending read size 0 p k) make e xs (h .0) tt
+      (length-each (λ a. a < bound) (bytesOf size) size (λ a _. length-bytesOf size a) xs 0 (h .2))
       (ascending-back (λ a. a < bound) (bytesOf size) size (λ a _. length-bytesOf size a) bytes read back xs 0 0 (h .2) (h .1))
+
+  -- items of `size` bytes each with a property
+  items-hold : {B : Type 0} (P : B → Type 0) (write : B → List ℕ) (size most : ℕ) (allow : ℕ → Bool)
+      → 0 < size → suc (size * most) < 65536 → ((x : B) → length (write x) ≡ size) → (read : ℕ → Result B) → Back bytes P write read
+      → (make : List B → A) → getElem? kinds j ≡ some
+      (record { fits = upTo size most; allowed = allow; body = λ p len. items read size p (len / size) >>= λ xs. found (make xs) })
+      → (xs : List B) → (length xs ≤ most) × All P xs → ((len : ℕ) → len ≡ size * length xs → T (allow len))
+      → Holds bytes kinds j (each write xs) (make xs)
+  items-hold P write size most allow some-size small sized read back make e xs h t =
+      let n : length (each write xs) ≡ size * length xs = length-each P write size (λ x _. sized x) xs 0 (h .1) in
+      list-holds write size most allow some-size small (λ p k. items read size p k) make e xs (h .0) (t (length (each write xs)) n) n
+      (items-back P write size (λ x _. sized x) bytes read back xs 0 (h .1))
 
 length-clause : (c : Clause) → length (writeClause c) ≡ 16
 unfolding writeClause
@@ -183,11 +192,8 @@ clauses-hold : (bytes : List ℕ) {kinds : List (Kind StateSet)} {j : ℕ} (n : 
     → Holds bytes kinds j (each writeClause cs) (basic (make cs))
 unfolding clauses
 clauses-hold bytes n b rule make e cs h =
-    list-holds bytes writeClause 16 256 _ (omega arith) (omega arith) (λ p k. items (clause bytes n rule) 16 p k)
-    (λ ds. basic (make ds)) e cs (h .0) tt
-    (length-each (FitsClause n rule) writeClause 16 (λ c _. length-clause c) cs 0 (h .1))
-    (items-back (FitsClause n rule) writeClause 16 (λ c _. length-clause c) bytes (clause bytes n rule) (clause-back bytes n rule b) cs 0
-    (h .1))
+    items-hold bytes (FitsClause n rule) writeClause 16 256 _ (omega arith) (omega arith) length-clause
+    (clause bytes n rule) (clause-back bytes n rule b) (λ ds. basic (make ds)) e cs h (λ _ _. tt)
 
 -- ---- every entry that fits
 
@@ -197,8 +203,7 @@ module _ (bytes : List ℕ) where
   unfolding actionKinds actionKind actionBody
   action-holds m b i all l h = plain-holds bytes refl
   action-holds m b i (listed is) l h =
-      ascending-holds bytes 2 256 m _ (omega arith) (omega arith) (reference bytes m) (reference-back bytes m b) listed refl is h
-      (λ _ _. tt)
+      ascending-holds bytes 2 256 m (omega arith) (omega arith) (reference bytes m) (reference-back bytes m b) listed refl is h
   action-holds m b i (either a c) l h = two-holds bytes either i i a c (omega arith) (omega arith) h refl
 
   basic-holds : (most n m i : ℕ) → n ≤ 64 → (x : Basic) → FitsBasic n x → listedStates (basic x) ≤ most
@@ -208,8 +213,8 @@ module _ (bytes : List ℕ) where
   basic-holds most n m i b init h a = plain-holds bytes refl
   basic-holds most n m i b goal h a = plain-holds bytes refl
   basic-holds most n m i b (explicit ss) h a =
-      ascending-holds bytes 8 4096 (2 ^ n) _ (omega arith) (omega arith) (mask bytes n) (mask-back bytes n b)
-      (λ xs. basic (explicit xs)) refl ss h (λ len e. up-to 8 most (length ss) len (omega arith) e a)
+      items-hold bytes (λ s. s < 2 ^ n) (bytesOf 8) 8 4096 _ (omega arith) (omega arith) (length-bytesOf 8) (mask bytes n)
+      (mask-back bytes n b) (λ xs. basic (explicit xs)) refl ss h (λ len e. up-to 8 most (length ss) len (omega arith) e a)
   basic-holds most n m i b (horn cs) h a = clauses-hold bytes n b hornRule horn refl cs h
   basic-holds most n m i b (twoCnf cs) h a = clauses-hold bytes n b twoCnfRule twoCnf refl cs h
 

@@ -19,11 +19,12 @@ use Rattle.meaning.specs.File.{all, listed, either, empty, init, goal, e
 use Rattle.meaning.specs.File.{union, progression, regression, File}
 use Rattle.meaning.specs.Layout.{hornRule, twoCnfRule, mask, reference, Kind, upTo, plain, one, two, clauses, actionKinds, stateKinds}
 use Rattle.meaning.specs.Layout.{entry, entries, readWithin, readFile}
-use Rattle.meaning.specs.Small.{above, afterEntries, actionSetCount, stateSetCount, stepCount, statesAt, longLists, breaches}
+use Rattle.meaning.specs.Structure.{afterEntries, actionSetCount, stateSetCount, stepCount, listedAt}
+use Rattle.meaning.specs.Small.{above, longLists, breaches}
 use Rattle.meaning.proofs.Results.{no-found, need-in, and-out}
 use Rattle.meaning.proofs.Numbered.{Numbered, given, then-ok, widen}
 use Rattle.meaning.proofs.LayoutFaults.{within, Bodies, field-in, mask-in, reference-in, count-in, step-in, items-in, task-in}
-use Rattle.meaning.proofs.LayoutFaults.{need-within, plain-in, one-in, two-in, clauses-in, lists-in}
+use Rattle.meaning.proofs.LayoutFaults.{need-within, plain-in, one-in, two-in, list-in, ascending-list-in, clauses-in}
 use Rattle.meaning.proofs.Stages.{From, empty as no-breach, from-append, from-lower, from-above, none-above}
 use Rattle.meaning.proofs.Stages.{Stage, fault, fine, breach, second, limit, bind, first-same, rest-same, need-first}
 
@@ -87,7 +88,7 @@ module _ (most : ℕ) where
   unfolding actionKinds plain two
   action-table bytes m i =
       free _ (plain-in all) (λ _. tt)
-      & free _ (λ lo hi len _. lists-in 2 listed (reference bytes m) (λ lo hi. reference-in lo hi bytes m) lo hi len) (λ _. tt)
+      & free _ (λ lo hi len _. ascending-list-in 2 listed (reference bytes m) (λ lo hi. reference-in lo hi bytes m) lo hi len) (λ _. tt)
       & free _ (two-in bytes either i i) (λ _. tt)
       & end (λ _ _. refl)
 
@@ -98,7 +99,7 @@ module _ (most : ℕ) where
       & free _ (plain-in (basic init)) (λ _. tt)
       & free _ (plain-in (basic goal)) (λ _. tt)
       & pair (λ len. len / 8) _ (upTo 8 most)
-      (λ lo hi len _. lists-in 8 (λ ss. basic (explicit ss)) (mask bytes n) (λ lo hi. mask-in lo hi bytes n) lo hi len)
+      (λ lo hi len _. list-in 8 (λ ss. basic (explicit ss)) (mask bytes n) (λ lo hi. mask-in lo hi bytes n) lo hi len)
       (few-listed 8 (full .states))
       & free _ (clauses-in bytes n hornRule horn) (λ _. tt)
       & free _ (clauses-in bytes n twoCnfRule twoCnf) (λ _. tt)
@@ -164,7 +165,7 @@ module _ (bytes : List ℕ) where
   state-stage : (most n m k p : ℕ) → Stage p (afterEntries bytes p k) (λ r. r .1 ≡ afterEntries bytes p k)
       (entries bytes (stateKinds bytes most n m) 0 p k) (entries bytes (stateKinds bytes (full .states) n m) 0 p k)
       (longLists bytes most p k)
-  unfolding longLists statesAt
+  unfolding longLists listedAt
   state-stage most n m k =
       entries-stage most statesOf _ _ (state-table most bytes n m) (longLists bytes most) (λ _. refl) (λ _ _. refl) (from-long most) k 0
 

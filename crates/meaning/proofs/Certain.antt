@@ -12,7 +12,6 @@ use Rattle.task.specs.Task.{Task, actionAt, isInit, isGoal, applies, after, nex
 use Rattle.task.specs.Reach.{member, Unsolvable, Reachable}
 use Rattle.task.proofs.Tests.{and-left, and-right, or-left, never, member-first, member-rest}
 use Rattle.task.proofs.Moves.{Bounded, reach-init, reach-next, reach-lt, reach-safe, safe-unsolvable}
-use Rattle.task.proofs.Sorted.{Ascends}
 use Rattle.task.proofs.Closure.{reachable-list}
 use Rattle.meaning.specs.Result.{found, need}
 use Rattle.meaning.specs.Bytes.{bytesOf}
@@ -20,7 +19,7 @@ use Rattle.meaning.specs.File.{File, stepAt}
 use Rattle.meaning.specs.declared.Limits.{Limits}
 use Rattle.meaning.specs.Limits.{full, small}
 use Rattle.meaning.specs.Layout.{readWithin, readFile}
-use Rattle.meaning.specs.Writing.{AllFrom, Ascending, FitsCertificate, FitsStep, each, writeEntry, actionBody, basicBody, stateBody}
+use Rattle.meaning.specs.Writing.{AllFrom, FitsCertificate, FitsStep, each, writeEntry, actionBody, basicBody, stateBody}
 use Rattle.meaning.specs.Writing.{writeActionSet, writeStateSet, writeStep, counted, fileOf, writeCertificate, listedStates, Allowed, Lawful}
 use Rattle.meaning.proofs.Results.{bind-in, need-in, found-same}
 use Rattle.meaning.proofs.Reading.{file-read, task-fits, task-end}
@@ -198,7 +197,7 @@ pub certain-length : CertainLength
 certain-length = (certificate-length, refl, refl, omega arith)
 
 module _ (l : Limits) (room : Roomy l) (table : List ℕ) (t : Task) (lawful : Lawful table t) (ss : List ℕ) (few : length ss ≤ l .states)
-    (up : Ascending 0 ss) (lists : (s : ℕ) → T (member s ss) ↔ Reachable t s) where
+    (lists : (s : ℕ) → T (member s ss) ↔ Reachable t s) where
   bound : Bounded t
   bound = fits-bounded t (task-fits (fileOf table []) t (4 + length table) lawful)
 
@@ -214,7 +213,7 @@ module _ (l : Limits) (room : Roomy l) (table : List ℕ) (t : Task) (lawful : L
         (
           tt,
           (
-            (omega (arith, few, room .states), up, all-below (2 ^ t .facts) ss 0 (λ s k. reach-lt bound (lists s .0 k))),
+            (omega (arith, few, room .states), all-below (2 ^ t .facts) ss 0 (λ s k. reach-lt bound (lists s .0 k))),
             ((omega arith, omega arith), ((omega arith, omega arith), ((omega arith, omega arith), tt))),
           ),
         ),
@@ -254,12 +253,8 @@ module _ (l : Limits) (room : Roomy l) (table : List ℕ) (t : Task) (lawful : L
 
 by-list : (l : Limits) → Roomy l → CertifiesByList (replyWithin l) (l .states)
 unfolding certificateOf
-by-list l room table t ss lawful safe up few lists =
-    (certificate-bytes theActionSets (theStateSets ss) theSteps 0 steps-fit, accepted l room table t lawful ss few up lists safe)
-
-ascending : (low : ℕ) (ss : List ℕ) → Ascends low ss → Ascending low ss
-ascending low [] h = tt
-ascending low (x ∷ ss) h = (h .0, ascending (suc x) ss (h .1))
+by-list l room table t ss lawful safe few lists =
+    (certificate-bytes theActionSets (theStateSets ss) theSteps 0 steps-fit, accepted l room table t lawful ss few lists safe)
 
 certifies : (l : Limits) → Roomy l → Certifies (replyWithin l) (l .states)
 certifies l room table t lawful h = (
@@ -269,8 +264,8 @@ certifies l room table t lawful h = (
       let q : a .0 .task ≡ t = ap (λ (x : Task × ℕ). x .0) (found-same (sym (w .table) ∙ lawful-reads table c t lawful)) in
       subst Unsolvable q (safe-unsolvable (a .0 .task) (a .2))),
   (λ safe.
-      let (ss, few, up, lists) = reachable-list t _ h in
-      let c = by-list l room table t ss lawful safe (ascending 0 ss up) few lists in
+      let (ss, few, lists) = reachable-list t _ h in
+      let c = by-list l room table t ss lawful safe few lists in
       (certificateOf ss, c .0, c .1)),
 )
 

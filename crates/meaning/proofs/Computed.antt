@@ -24,7 +24,8 @@ use Rattle.meaning.specs.Reply.{checkSteps, checkFrom, checkFile, replyT
 use Rattle.meaning.specs.Numbering.{checkUnused, checkNumbers, ruleNumbers, ruleFrom, ruleMeant, rewritten, checkRewritten}
 use Rattle.meaning.specs.Numbering.{replyNumbered}
 use Rattle.meaning.specs.Rounds.{lawfulCount, handBack, checkRound, roundTo, roundOf}
-use Rattle.meaning.specs.Small.{replyWithin, above, afterEntries, actionSetCount, stateSetCount, stepCount, statesAt, longLists}
+use Rattle.meaning.specs.Structure.{afterEntries, actionSetCount, stateSetCount, stepCount, listedAt}
+use Rattle.meaning.specs.Small.{replyWithin, above, longLists}
 use Rattle.meaning.specs.Small.{breaches}
 use Rattle.meaning.specs.Cases.{word, withLength, tableBytes, setBytes, stepBytes, firstSteps, allSteps, explicit012, fileBytes}
 use Rattle.meaning.specs.Cases.{sample, cases}
@@ -39,6 +40,6 @@ unfolding allOn without actionAt isInit isGoal applies after member every _>>=_ 
     patternKind noLetters _then_ given withLetter standsFor ofKind ofActionKind matchᴬ match matchEntries matchStep matchPremises
     judgementKind premiseCount allRules ruleAt entriesFit wellFormed checkBy checkStep checkSteps checkFrom checkFile replyTo replyOf
     checkUnused checkNumbers ruleNumbers ruleFrom ruleMeant rewritten checkRewritten replyNumbered lawfulCount
-    handBack checkRound roundTo roundOf replyWithin above afterEntries actionSetCount stateSetCount stepCount statesAt longLists breaches
+    handBack checkRound roundTo roundOf replyWithin above afterEntries actionSetCount stateSetCount stepCount listedAt longLists breaches
     word withLength tableBytes setBytes stepBytes firstSteps allSteps explicit012 fileBytes sample cases
 computed = tt

@@ -133,31 +133,39 @@ few : (size most len : ℕ) → T (upTo size most len) → len / size ≤ most
 unfolding upTo
 few size most len t = leb→le (len / size) most (and-out (eqb (len % size) 0) (leb (len / size) most) t .1)
 
+-- items of `size` bytes each; `allow` is the limits' own test of the length
+give-items : {A B : Type 0} (P : A → Type 0) (Q : B → Type 0) (read : ℕ → Result B) → Gives Q read → (size most : ℕ) (allow : ℕ → Bool)
+    → (make : List B → A)
+    → ((xs : List B) (len : ℕ) → length xs ≡ len / size → T (allow len) → (length xs ≤ most) × All Q xs → P (make xs))
+    → (p len : ℕ) (x : A) → T (upTo size most len) → T (allow len)
+    → (items read size p (len / size) >>= λ xs. found (make xs)) ≡ found x → P x
+give-items P Q read g size most allow make h p len x t u e =
+    bind-case (items read size p (len / size)) _ x e λ xs xs! q.
+    let r = items-give Q read size g (len / size) 0 p xs xs! in
+    subst P (found-same q) (h xs len (r .0) u (subst (λ (l : ℕ). l ≤ most) (sym (r .0)) (few size most len t), r .1))
+
 give-clauses : (bytes : List ℕ) (P : StateSet → Type 0) (n : ℕ) (rule : ℕ → ℕ → Bool) (make : List Clause → Basic)
     → ((cs : List Clause) → FitsClauses n rule cs → P (basic (make cs))) → KindGives P (clauses bytes n rule make)
 unfolding clauses
-give-clauses bytes P n rule make h p len x t _ e =
-    bind-case (items (clause bytes n rule) 16 p (len / 16)) _ x e λ cs cs! q.
-    let r = items-give (FitsClause n rule) (clause bytes n rule) 16 (clause-gives bytes n rule) (len / 16) 0 p cs cs! in
-    subst P (found-same q) (h cs (subst (λ (l : ℕ). l ≤ 256) (sym (r .0)) (few 16 256 len t), r .1))
+give-clauses bytes P n rule make h =
+    give-items P (FitsClause n rule) (clause bytes n rule) (clause-gives bytes n rule) 16 256 (λ _. true) (λ cs. basic (make cs))
+    (λ cs len e u z. h cs z)
 
--- `allow` is the limits' own test of the length
-give-ascending : {A : Type 0} (P : A → Type 0) (Q : ℕ → Type 0) (read : ℕ → Result ℕ) → Gives Q read → (size most : ℕ) (allow : ℕ → Bool)
-    → (make : List ℕ → A)
-    → ((xs : List ℕ) (len : ℕ) → length xs ≡ len / size → T (allow len) → (length xs ≤ most) × Ascending 0 xs × All Q xs → P (make xs))
-    → (p len : ℕ) (x : A) → T (upTo size most len) → T (allow len)
+give-ascending : {A : Type 0} (P : A → Type 0) (Q : ℕ → Type 0) (read : ℕ → Result ℕ) → Gives Q read → (size most : ℕ) (make : List ℕ → A)
+    → ((xs : List ℕ) → (length xs ≤ most) × Ascending 0 xs × All Q xs → P (make xs))
+    → (p len : ℕ) (x : A) → T (upTo size most len)
     → (ascending read size 0 p (len / size) >>= λ xs. found (make xs)) ≡ found x → P x
-give-ascending P Q read g size most allow make h p len x t u e =
+give-ascending P Q read g size most make h p len x t e =
     bind-case (ascending read size 0 p (len / size)) _ x e λ xs xs! q.
     let r = ascending-give Q read size g (len / size) 0 0 p xs xs! in
-    subst P (found-same q) (h xs len (r .0) u (subst (λ (l : ℕ). l ≤ most) (sym (r .0)) (few size most len t), r .1, r .2))
+    subst P (found-same q) (h xs (subst (λ (l : ℕ). l ≤ most) (sym (r .0)) (few size most len t), r .1, r .2))
 
 action-kinds-give : (bytes : List ℕ) (m i : ℕ) → AllGive (FitsActionSet m i) (actionKinds bytes m i)
 unfolding actionKinds
 action-kinds-give bytes m i =
     let P : ActionSet → Type 0 = FitsActionSet m i in
     give-plain P all tt
-    & give-ascending P (λ j. j < m) (reference bytes m) (reference-gives bytes m) 2 256 (λ _. true) listed (λ xs len n u h. h)
+    & (λ p len x t _. give-ascending P (λ j. j < m) (reference bytes m) (reference-gives bytes m) 2 256 listed (λ xs h. h) p len x t)
     & give-two bytes P either i i (λ a b l k. (l, k))
     & end
 
@@ -173,7 +181,7 @@ state-kinds-give bytes most n m i =
     give-plain P (basic empty) (tt, none)
     & give-plain P (basic init) (tt, none)
     & give-plain P (basic goal) (tt, none)
-    & give-ascending P (λ s. s < 2 ^ n) (mask bytes n) (mask-gives bytes n) 8 4096 (upTo 8 most) (λ ss. basic (explicit ss))
+    & give-items P (λ s. s < 2 ^ n) (mask bytes n) (mask-gives bytes n) 8 4096 (upTo 8 most) (λ ss. basic (explicit ss))
     (λ xs len e u h. (h, subst (λ (l : ℕ). l ≤ most) (sym e) (few 8 most len u)))
     & give-clauses bytes P n hornRule horn (λ cs h. (h, none))
     & give-clauses bytes P n twoCnfRule twoCnf (λ cs h. (h, none))

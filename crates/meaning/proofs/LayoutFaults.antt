@@ -10,7 +10,7 @@ use lib.Dec.{T, leb, ltb, leb→le, eqb→eq}
 use Rattle.meaning.specs.Result.{Result, found, _>>=_, need}
 use Rattle.meaning.specs.Bytes.{number}
 use Rattle.meaning.specs.declared.Clause.{Clause}
-use Rattle.meaning.specs.File.{Basic}
+use Rattle.meaning.specs.File.{Basic, basic}
 use Rattle.meaning.specs.Layout.{items, ascending, field, count, mask, reference, action, clause, step, Kind, plain, one, two}
 use Rattle.meaning.specs.Layout.{clauses, readTask}
 use Rattle.meaning.proofs.Results.{and-out}
@@ -139,14 +139,20 @@ module _ (bytes : List ℕ) where
       then-ok (reference-in lo hi bytes bound p l (omega arith)) (λ _ _.
       then-ok (reference-in lo hi bytes bound′ (p + 2) (omega arith) (omega arith)) (λ _ _. given tt))
 
-  pub clauses-in : (n : ℕ) (rule : ℕ → ℕ → Bool) (make : List Clause → Basic) → Bodies (clauses bytes n rule make)
-  unfolding clauses
-  clauses-in n rule make lo hi len t p l h =
-      then-ok (items-in lo hi _ 16 (clause-in lo hi bytes n rule) (len / 16) p l (omega arith)) (λ _ _. given tt)
+-- as many items of a size as the length has room for, and numbers that ascend
+pub list-in : {A B : Type 0} (size : ℕ) (make : List B → A) (read : ℕ → Result B) → ((lo hi : ℕ) → Part lo hi size read)
+    → (lo hi len : ℕ) → Part lo hi len (λ p. items read size p (len / size) >>= λ xs. found (make xs))
+list-in size make read h lo hi len p l u =
+    let e = mul-div-le len size in
+    then-ok (items-in lo hi read size (h lo hi) (len / size) p l (omega arith)) (λ _ _. given tt)
 
--- numbers that ascend, as many as the length has room for
-pub lists-in : {A : Type 0} (size : ℕ) (make : List ℕ → A) (read : ℕ → Result ℕ) → ((lo hi : ℕ) → Part lo hi size read)
+pub ascending-list-in : {A : Type 0} (size : ℕ) (make : List ℕ → A) (read : ℕ → Result ℕ) → ((lo hi : ℕ) → Part lo hi size read)
     → (lo hi len : ℕ) → Part lo hi len (λ p. ascending read size 0 p (len / size) >>= λ xs. found (make xs))
-lists-in size make read h lo hi len p l u =
+ascending-list-in size make read h lo hi len p l u =
     let e = mul-div-le len size in
     then-ok (ascending-in lo hi read size (h lo hi) (len / size) 0 p l (omega arith)) (λ _ _. given tt)
+
+pub clauses-in : (bytes : List ℕ) (n : ℕ) (rule : ℕ → ℕ → Bool) (make : List Clause → Basic) → Bodies (clauses bytes n rule make)
+unfolding clauses
+clauses-in bytes n rule make lo hi len t =
+    list-in 16 (λ cs. basic (make cs)) (clause bytes n rule) (λ lo hi. clause-in lo hi bytes n rule) lo hi len

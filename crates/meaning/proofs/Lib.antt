@@ -25,6 +25,7 @@ pub mod Paths
 pub mod RulesSound
 pub mod Letters
 pub mod Same
+pub mod Alike
 pub mod Matching
 pub mod Holds
 pub mod Computed

@@ -14,7 +14,6 @@ use Rattle.task.specs.Task.{Task, actionAt, isInit, next, run}
 use Rattle.task.specs.Reach.{member, distinct, Sequence, Reachable, AtMostReachable}
 use Rattle.task.proofs.Tests.{excluded, member-none, member-first, member-rest, member-cases, distinct-none, distinct-more}
 use Rattle.task.proofs.Moves.{init-is, init-holds, reach-init, reach-next}
-use Rattle.task.proofs.Sorted.{Ascends, sort, sort-ascending, sort-length, sort-in, sort-out}
 
 -- ---- of two cases at each number, the first holds somewhere or the second everywhere
 
@@ -109,14 +108,9 @@ module _ (t : Task) where
         ],
       )
 
--- where at most k states are within reach, a sorted list of at most k states holds just those
+-- where at most k states are within reach, a list of at most k states holds just those
 pub reachable-list : (t : Task) (k : ℕ) → AtMostReachable k t
-    → (ss : List ℕ) × (length ss ≤ k) × Ascends 0 ss × ((s : ℕ) → T (member s ss) ↔ Reachable t s)
+    → (ss : List ℕ) × (length ss ≤ k) × ((s : ℕ) → T (member s ss) ↔ Reachable t s)
 reachable-list t k h =
-    let c = closed-list t k h in
-    let l : List ℕ = c .0 in (
-      sort l,
-      le-trans (sort-length l) (h l (c .1 .0) (c .1 .1)),
-      sort-ascending l,
-      λ s. ((λ m. c .1 .1 s (sort-out s l m)), (λ r. sort-in s l (closed-all t l (c .2) s r))),
-    )
+    let (l, (distinct, within), closed) = closed-list t k h in
+    (l, h l distinct within, λ s. (within s, closed-all t l closed s))

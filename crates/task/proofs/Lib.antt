@@ -2,6 +2,5 @@ pub mod Tests
 pub mod Bits
 pub mod Names
 pub mod Moves
-pub mod Sorted
 pub mod Closure
 pub mod MaskLaws
