@@ -124,6 +124,13 @@ module _ {A : Type 0} (bytes : List ℕ) where
         let s = items-stand bytes size at read stands (len / size) (p + 3) xs (omega arith) e in
         subst (P p len) (found-same q) (h p len xs (s .0) (s .1))
 
+    say-items : {B : Type 0} (size most : ℕ) (at : ℕ → B) (read : ℕ → Result B) → Stands bytes size at read → (make : List B → A)
+        → ((p len : ℕ) (xs : List B) → length xs ≡ len / size → Items bytes size at (p + 3) xs → P p len (make xs))
+        → KindSays P
+        (record { fits = upTo size most; allowed = λ _. true; body = λ p len. items read size p (len / size) >>= λ xs. found (make xs) })
+    say-items size most at read stands make h p len x b t e =
+        bind-case (items read size (p + 3) (len / size)) _ x e λ xs xs! q. say-list size at read stands make h p len x b xs xs! q
+
     say-ascending : (size most : ℕ) (read : ℕ → Result ℕ) → Stands bytes size (numberAt size bytes) read → (make : List ℕ → A)
         → ((p len : ℕ) (xs : List ℕ) → length xs ≡ len / size → Items bytes size (numberAt size bytes) (p + 3) xs → P p len (make xs))
         → KindSays P
@@ -140,9 +147,8 @@ say-clauses : (bytes : List ℕ) (P : ℕ → ℕ → StateSet → Type 0) (n : 
     → ((p len : ℕ) (cs : List Clause) → length cs ≡ len / 16 → Items bytes 16 (clauseAt bytes) (p + 3) cs → P p len (basic (make cs)))
     → KindSays bytes P (clauses bytes n rule make)
 unfolding clauses
-say-clauses bytes P n rule make h p len x b t e =
-    bind-case (items (clause bytes n rule) 16 (p + 3) (len / 16)) _ x e λ cs cs! q.
-    say-list bytes P 16 (clauseAt bytes) (clause bytes n rule) (clause-stands bytes n rule) (λ cs. basic (make cs)) h p len x b cs cs! q
+say-clauses bytes P n rule make h =
+    say-items bytes P 16 256 (clauseAt bytes) (clause bytes n rule) (clause-stands bytes n rule) (λ cs. basic (make cs)) h
 
 -- ---- all kinds
 
@@ -164,7 +170,8 @@ state-kinds-say bytes most n m i =
     say-plain bytes (P 0) (basic empty) (λ p len. (refl, tt))
     & say-plain bytes (P 1) (basic init) (λ p len. (refl, tt))
     & say-plain bytes (P 2) (basic goal) (λ p len. (refl, tt))
-    & say-ascending bytes (P 3) 8 4096 (mask bytes n) (mask-stands bytes n) (λ ss. basic (explicit ss)) (λ p len ss l h. (cc, h))
+    & say-items bytes (P 3) 8 4096 (numberAt 8 bytes) (mask bytes n) (mask-stands bytes n) (λ ss. basic (explicit ss))
+    (λ p len ss l h. (cc, h))
     & say-clauses bytes (P 4) n hornRule horn (λ p len cs l h. (cc, h))
     & say-clauses bytes (P 5) n twoCnfRule twoCnf (λ p len cs l h. (cc, h))
     & say-one bytes (P 6) complement i (λ p len. (refl, tt))

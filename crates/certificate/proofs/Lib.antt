@@ -4,6 +4,8 @@ pub mod ItemLaws
 pub mod EntryLaws
 pub mod SectionLaws
 pub mod ViewLaws
+pub mod RowLaws
+pub mod OrderLaws
 pub mod KnownLaws
 pub mod SeenLaws
 pub mod OutlineKnown

@@ -92,13 +92,17 @@ module _ (bytes : List ℕ) (f : File) (r : readFile bytes ≡ found f) where
     kept : (p x i : ℕ) → x ≡ capped p → p + 3 + i ≤ length bytes → x ≡ p
     kept p x i e l = let s = parts .short in omega arith
 
+    pub indexed-place : (e : ℕ) → e < length (f .stateSets) → statePlace index e ≡ entryPlace bytes (placesOf bytes f .«state_sets_at») e
+    unfolding placesOf
+    indexed-place e l = kept _ _ _ (t .stateSets e l) (state-set-at e l .inside)
+
     -- entries stand after the task, so that no place of one is 0, and before the steps
     pub indexed-state-set : (e : ℕ) → e < length (f .stateSets)
         → StateSetStands bytes (statePlace index e) (stateSetAt f e) × (1 ≤ statePlace index e) × (statePlace index e + 7 ≤ length bytes)
     unfolding placesOf
     indexed-state-set e l =
         let s = state-set-at e l in
-        let k = kept _ _ _ (t .stateSets e l) (s .inside) in
+        let k = indexed-place e l in
         let n = places-fit in
         let low = place-le bytes (placesOf bytes f .«state_sets_at») e in
         let high = place-before bytes (placesOf bytes f .«state_sets_at») e (length (f .stateSets)) l in (

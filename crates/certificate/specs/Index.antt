@@ -1,4 +1,4 @@
--- The table of the entries' places: action sets at 0 to 255, state sets at 256 to 767, and 0 where there is no entry.
+-- The places in the table of entries: action sets at 0 to 255, state sets at 256 to 767, and 0 where there is no entry.
 -- Assumes nothing.
 use Prim.Native.Nat.{ℕ, _+_, _≤_, _<_, min}
 use mathlib.Core.Path.{_≡_}

@@ -1,3 +1,4 @@
 pub mod Views
 pub mod Index
+pub mod Rows
 pub mod Known

@@ -1,9 +1,7 @@
-// A file's entries, steps and actions as values, and the table of the entries' places.
+// A file's entries, steps and actions as values.
 use crate::ActionEntry;
 use crate::BasicEntry;
-use crate::Index;
 use crate::Judgement;
-use crate::Places;
 use crate::Premises;
 use crate::Span;
 use crate::StateEntry;
@@ -18,8 +16,6 @@ ghost use Prim.Native.Nat.{_+_, _-_, _*_, _≤_, _<_};
 ghost use lib.ListN.{length};
 ghost use Rattle.bytes.specs.Numbers.{numberAt};
 ghost use Rattle.certificate.specs.Views.{headAt, spanOf, stateOf, actionsOf, stateEntryAt, actionEntryAt, judgementOf, cleanOf, stepRead, stepOf, actionIn};
-ghost use Rattle.certificate.specs.Index.{capped, Indexed};
-ghost use Rattle.certificate.specs.Known.{Known, Placed};
 
 // The numbers of an entry: its kind, where its body starts and how long it is, and the two numbers that start the body.
 pub struct Head {
@@ -174,41 +170,6 @@ pub fn action_at(file: &[u8], i: u16) -> Action
     let add = u64_at(file, p + 8);
     let del = u64_at(file, p + 16);
     Action { pre, add, del }
-}
-
-// A place as two bytes hold it.
-fn capped_at(at: usize) -> u16
-    ensures { λ r. ⌜ r ≡ capped at ⌝ }
-{
-    if at < 65535 { at as u16 } else { 65535 }
-}
-
-// Puts the places of `count` entries, of which the first is at `first`, into a table at `from` and after it, as far as the table goes.
-pub(crate) fn index_entries(file: &[u8], first: u32, count: u16, index: &mut [u16], from: u16)
-    ensures { λ _. ⌜ Indexed (now (file .entry)) first count from (now (index .entry)) (now (index .exit)) ⌝ }
-{
-    let mut at = first as usize;
-    let mut k = 0u16;
-    while k < count {
-        let i = from as usize + k as usize;
-        if index.len() <= i {
-            return;
-        }
-        index[i] = capped_at(at);
-        at = at + 2 + u16_at(file, at) as usize;
-        k += 1;
-    }
-}
-
-// The table of a file's entries.
-pub fn index_of(file: &[u8], at: Places) -> Index
-    requires { ⌜ Placed (now file) at ⌝ }
-    ensures { λ r. ⌜ Known (now (file .entry)) r ⌝ }
-{
-    let mut index = [0u16; 768];
-    index_entries(file, at.action_sets_at, at.action_sets, &mut index, 0);
-    index_entries(file, at.state_sets_at, at.state_sets, &mut index, 256);
-    index
 }
 
 // The action's number at an index of the body of a listed action set.

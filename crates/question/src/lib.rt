@@ -3,7 +3,7 @@ use certificate::Index;
 use certificate::Outline;
 use certificate::Places;
 use certificate::StateEntry;
-use certificate::views::index_of;
+use certificate::index::index_of;
 use holding::member;
 use layout::full_limits;
 use layout::read_layout;

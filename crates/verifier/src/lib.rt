@@ -2,7 +2,7 @@
 use certificate::Index;
 use certificate::Outline;
 use certificate::Places;
-use certificate::views::index_of;
+use certificate::index::index_of;
 use layout::full_limits;
 use layout::read_layout;
 use layout::small_limits;

@@ -1,4 +1,4 @@
--- `views::index_entries` meets its contract. The loop's invariant: `at` is the place of entry k, and the table has the places of the k
+-- `index::index_entries` meets its contract. The loop's invariant: `at` is the place of entry k, and the table has the places of the k
 -- entries before it.
 -- The measure is the number of entries left.
 -- Assumes nothing.
@@ -9,8 +9,8 @@ use borrow.Author.Needs.{needs}
 use Rattle.certificate.specs.Views.{entryPlace}
 use Rattle.certificate.specs.Index.{capped, Indexed}
 use Rattle.certificate.proofs.IndexLaws.{place-more, indexed-none, indexed-more, indexed-full, indexed-all}
-use Rattle.certificate.proofs.views.index_entries.Statement.{statement}
-use Rattle.certificate.proofs.views.index_entries.Tie as tie
+use Rattle.certificate.proofs.index.index_entries.Statement.{statement}
+use Rattle.certificate.proofs.index.index_entries.Tie as tie
 
 abbrev Inv-loop : tie.InvT-loop
 Inv-loop file first count index₀ from at₀ k₀ index at k =
