@@ -1,13 +1,12 @@
 -- One turn of each loop over a body's items, and its end.
 -- Assumes nothing.
 use mathlib.Core.Path.{_≡_, sym, ap, _∙_}
-use Prim.Native.Nat.{ℕ, zero, suc, _+_, _-_, _*_, _/_, _^_, _≤_, _<_}
+use Prim.Native.Nat.{ℕ, suc, _+_, _-_, _*_, _/_, _^_, _≤_, _<_}
 use native.Mathlib.Omega.{arith}
-use mathlib.Core.Bool.{Bool, true, false, not, _&&_}
+use mathlib.Core.Bool.{Bool, true, false, not}
 use mathlib.Core.List.{List}
 use lib.ListN.{length}
-use lib.Dec.{leb, ltb}
-use borrow.Author.Tests.{le-leb, lt-leb, lt-ltb, leb-true, leb-false, not-true, not-false}
+use borrow.Author.Tests.{le-leb, lt-leb, not-true, not-false}
 use Rattle.bodies.specs.declared.Form.{Form}
 use Rattle.bodies.specs.declared.Fault.{Fault}
 use Rattle.bodies.specs.declared.Fault.the-variants.{None, At}
@@ -50,28 +49,31 @@ module _ (read : ℕ → Result ℕ) (size count start : ℕ) where
             ∙ sym (ascending-next read size count i low p q h e f (le-leb low x l))
             ∙ left
 
--- one more than the number before number i, where there is one
-abbrev pub lowAfter : ℕ → ℕ → ℕ
-lowAfter zero last = 0
-lowAfter (suc i) last = suc last
+-- ---- items
 
-pub low-next : (i x : ℕ) → suc x ≡ lowAfter (i + 1) x
-low-next i x = let e : suc i ≡ i + 1 = omega arith in ap (λ (k : ℕ). lowAfter k x) e
+-- the items from number i on, at place p, say what all of them say
+abbrev pub ItemsLeft : {A : Type 0} → (ℕ → Result A) → ℕ → ℕ → ℕ → ℕ → Type 0
+ItemsLeft read size count p i = forget (items read size p (count - i)) ≡ forget (items read size 0 count)
 
-pub low-fails : (i last x : ℕ) → (ltb 0 i && leb x last) ≡ true → x < lowAfter i last
-low-fails zero last x e = let z : _≡_ {A = ℕ} 0 1 = cc in absurd (omega arith)
-low-fails (suc i) last x e = omega (arith, leb-true x last (sym (ap (λ b. b && leb x last) (lt-ltb 0 (suc i) (omega arith))) ∙ e))
+module _ {A : Type 0} (read : ℕ → Result A) (size count start : ℕ) where
+  pub items-start : ItemsLeft read size count 0 0
+  items-start = none-yet (λ (k : ℕ). forget (items read size 0 k)) count
 
-pub low-holds : (i last x : ℕ) → (ltb 0 i && leb x last) ≡ false → lowAfter i last ≤ x
-low-holds zero last x e = omega arith
-low-holds (suc i) last x e = omega (arith, leb-false x last (sym (ap (λ b. b && leb x last) (lt-ltb 0 (suc i) (omega arith))) ∙ e))
+  module _ (i p : ℕ) (left : ItemsLeft read size count p i) where
+    pub items-done : count ≤ i → None ≡ faultFrom start (items read size 0 count)
+    items-done h = from-fine start (items read size 0 count) (sym left ∙ items-end read size count i p h)
+
+    module _ (h : i < count) where
+      pub item-bad : {r q : ℕ} → read p ≡ refuse r q → At r (start + q) ≡ faultFrom start (items read size 0 count)
+      item-bad f = from-refused start (items read size 0 count) _ _ (sym left ∙ items-stop read size count i p h f)
+
+      pub item-next : (q : ℕ) {x : A} → p + size ≡ q → read p ≡ found x → ItemsLeft read size count q (i + 1)
+      item-next q e f = sym (items-next read size count i p q h e f) ∙ left
 
 -- ---- clauses
 
--- the clauses from number i on say what all of them say
 abbrev pub ClausesLeft : List ℕ → ℕ → Bool → ℕ → ℕ → Type 0
-ClausesLeft part n two count i =
-    forget (items (clause part n (clauseRule two)) 16 (16 * i) (count - i)) ≡ forget (items (clause part n (clauseRule two)) 16 0 count)
+ClausesLeft part n two count i = ItemsLeft (clause part n (clauseRule two)) 16 count (16 * i) i
 
 module _ (part : List ℕ) (n : ℕ) (two : Bool) (start : ℕ) where
   abbrev R : ℕ → Result Clause
@@ -80,16 +82,10 @@ module _ (part : List ℕ) (n : ℕ) (two : Bool) (start : ℕ) where
   abbrev count : ℕ
   count = length part / 16
 
-  pub clauses-start : ClausesLeft part n two count 0
-  clauses-start = none-yet (λ (k : ℕ). forget (items R 16 0 k)) count
-
   module _ (i : ℕ) (left : ClausesLeft part n two count i) where
-    pub clauses-end : count ≤ i → None ≡ faultFrom start (items R 16 0 count)
-    clauses-end h = from-fine start (items R 16 0 count) (sym left ∙ items-end R 16 count i (16 * i) h)
-
     module _ (h : i < count) (top : ℕ) (t : Top top n) {a : ℕ} (e : a ≡ numberAt 8 part (16 * i)) (w : a < 2 ^ 64) where
       stop : {r q : ℕ} → R (16 * i) ≡ refuse r q → At r (start + q) ≡ faultFrom start (items R 16 0 count)
-      stop f = from-refused start (items R 16 0 count) _ _ (sym left ∙ items-stop R 16 count i (16 * i) h f)
+      stop f = item-bad R 16 count start i (16 * i) left h f
 
       pub clause-positive : top < a → At 5 (start + 16 * i) ≡ faultFrom start (items R 16 0 count)
       clause-positive g = stop (clause-first part (16 * i) n (clauseRule two) (mask-high part (16 * i) top n t e w (omega arith) g))
@@ -112,9 +108,8 @@ module _ (part : List ℕ) (n : ℕ) (two : Bool) (start : ℕ) where
 
           pub clause-next : not r ≡ false → ClausesLeft part n two count (i + 1)
           clause-next s =
-              sym (items-next R 16 count i (16 * i) (16 * (i + 1)) h (omega arith)
-              (clause-in part (16 * i) n (clauseRule two) first second (sym q ∙ not-false r s)))
-              ∙ left
+              item-next R 16 count start i (16 * i) left h (16 * (i + 1)) (omega arith)
+              (clause-in part (16 * i) n (clauseRule two) first second (sym q ∙ not-false r s))
 
 -- ---- a form that is known
 

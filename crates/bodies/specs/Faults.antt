@@ -51,7 +51,7 @@ formBody bytes n (Numbers m) p len = do
   _ ← ascending (reference bytes m) 2 0 p (len / 2)
   found tt
 formBody bytes n (States most) p len = do
-  _ ← ascending (mask bytes n) 8 0 p (len / 8)
+  _ ← items (mask bytes n) 8 p (len / 8)
   found tt
 formBody bytes n (Clauses two) p len = do
   _ ← items (clause bytes n (clauseRule two)) 16 p (len / 16)

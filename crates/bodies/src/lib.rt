@@ -65,26 +65,20 @@ fn numbers(part: &[u8], bound: u16, start: u32) -> Fault
     Fault::None
 }
 
-// States over n facts, which ascend.
+// States over n facts.
 fn states(part: &[u8], n: u8, start: u32) -> Fault
     requires { ⌜ start + length (now part) ≤ 65536 ⌝ }
-    ensures { λ r. ⌜ r ≡ faultFrom start (ascending (mask (now (part .entry)) n) 8 0 0 (length (now (part .entry)) / 8)) ⌝ }
+    ensures { λ r. ⌜ r ≡ faultFrom start (items (mask (now (part .entry)) n) 8 0 (length (now (part .entry)) / 8)) ⌝ }
 {
     let top = all_facts(n);
     let count = part.len() / 8;
     let mut i: usize = 0;
-    let mut last: u64 = 0;
     while i < count {
         let at = 8 * i;
         let place = start + at as u32;
-        let x = u64_at(part, at);
-        if top < x {
+        if top < u64_at(part, at) {
             return Fault::At { number: 5, place };
         }
-        if (0 < i) & (x <= last) {
-            return Fault::At { number: 7, place };
-        }
-        last = x;
         i += 1;
     }
     Fault::None

@@ -106,7 +106,7 @@ module _ (bytes : List ℕ) (n : ℕ) where
         form = refl;
         fits = λ len. refl;
         allows = λ len. refl;
-        body = λ p len. kept (ascending (mask bytes n) 8 0 p (len / 8)) _ _;
+        body = λ p len. kept (items (mask bytes n) 8 p (len / 8)) _ _;
       }
       & record {
         form = refl;

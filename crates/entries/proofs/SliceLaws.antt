@@ -123,8 +123,8 @@ module _ (bytes : List ℕ) (d len : ℕ) (h : d + len ≤ length bytes) where
       moved-bind d (ascending (reference part m) 2 0 0 (len / 2)) _ _
       (near-ascending (reference part m) (reference bytes m) 2 (near-reference m) (len / 2) 0 0 (omega arith)) (λ _. refl)
   near-body n (States most) t =
-      moved-bind d (ascending (mask part n) 8 0 0 (len / 8)) _ _
-      (near-ascending (mask part n) (mask bytes n) 8 (near-mask n) (len / 8) 0 0 (omega arith)) (λ _. refl)
+      moved-bind d (items (mask part n) 8 0 (len / 8)) _ _
+      (near-items (mask part n) (mask bytes n) 8 (near-mask n) (len / 8) 0 (omega arith)) (λ _. refl)
   near-body n (Clauses two) t =
       moved-bind d (items (clause part n (clauseRule two)) 16 0 (len / 16)) _ _
       (near-items (clause part n (clauseRule two)) (clause bytes n (clauseRule two)) 16 (near-clause n (clauseRule two)) (len / 16) 0

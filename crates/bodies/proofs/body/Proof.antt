@@ -37,7 +37,7 @@ returns-4 : tie.Need-returns-4
 returns-4 c =
     let a = c .before .before .before .before .args in
     form-says (c .before .enum-told3 .given .1) (a .part .now) (a .n) (a .start)
-    (from-unit (a .start) (ascending (mask (a .part .now) (a .n)) 8 0 0 (length (a .part .now) / 8)) (c .states .ensures))
+    (from-unit (a .start) (items (mask (a .part .now) (a .n)) 8 0 (length (a .part .now) / 8)) (c .states .ensures))
 
 returns-5 : tie.Need-returns-5
 returns-5 c =

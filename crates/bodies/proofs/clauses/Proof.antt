@@ -1,9 +1,11 @@
 -- `bodies::clauses` meets its contract.
 -- The loop's invariant: the clauses that are left say what all of them say.
 -- Assumes nothing.
-use Prim.Native.Nat.{_-_, _≤_}
-use Rattle.bodies.proofs.BodyLaws.{ClausesLeft, clauses-start, clauses-end, clause-positive, clause-negative, clause-rule}
-use Rattle.bodies.proofs.BodyLaws.{clause-next}
+use Prim.Native.Nat.{_-_, _*_, _/_, _≤_}
+use lib.ListN.{length}
+use Rattle.meaning.specs.Layout.{clause}
+use Rattle.bytes.specs.ClauseRule.{clauseRule}
+use Rattle.bodies.proofs.BodyLaws.{items-start, items-done, ClausesLeft, clause-positive, clause-negative, clause-rule, clause-next}
 use borrow.Author.Needs.{needs}
 use Rattle.bodies.proofs.clauses.Statement.{statement}
 use Rattle.bodies.proofs.clauses.Tie as tie
@@ -17,7 +19,7 @@ abbrev μ-loop : tie.MeasureT-loop
 loop-holds : tie.Need-loop-holds Inv-loop μ-loop
 loop-holds c =
     let a = c .before .before .args in
-    (search needs, clauses-start (a .part .now) (a .n) (a .two) (a .start))
+    (search needs, items-start (clause (a .part .now) (a .n) (clauseRule (a .two))) 16 (length (a .part .now) / 16) (a .start))
 
 returns : tie.Need-returns Inv-loop μ-loop
 returns c =
@@ -60,7 +62,9 @@ loop-again c =
 returns-4 : tie.Need-returns-4 Inv-loop μ-loop
 returns-4 c =
     let a = c .before .before .before .before .args in
-    clauses-end (a .part .now) (a .n) (a .two) (a .start) (c .before .loop .i) (c .before .loop .inv .1) (search needs)
+    let l = c .before .loop in
+    items-done (clause (a .part .now) (a .n) (clauseRule (a .two))) 16 (length (a .part .now) / 16) (a .start) (l .i) (16 * l .i) (l .inv .1)
+    (search needs)
 
 pub clauses-spec : {M : Type 1} → statement M
 clauses-spec =
