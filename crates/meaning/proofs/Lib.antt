@@ -29,6 +29,9 @@ pub mod Alike
 pub mod Matching
 pub mod Holds
 pub mod Computed
+pub mod Alike
+pub mod AlikeSteps
+pub mod AlikeChecks
 pub mod RuleBytes
 pub mod Numbering
 pub mod Renumber
