@@ -1,30 +1,22 @@
 -- A file whose rule bytes are rewritten: its entries stay and so does what its steps say, so a step is checked there as in the plain
 -- file; and numbers that stand for the same rules give the same reply.
 -- Assumes nothing.
-use mathlib.Core.Path.{_≡_, refl, sym, ap, _∙_, fun-ext}
-use mathlib.Core.Bool.{Bool, true, false, not, _||_}
+use mathlib.Core.Path.{_≡_, refl, sym, ap, _∙_}
 use mathlib.Core.Option.{Option}
-use Prim.Native.Nat.{ℕ, zero, suc, _-_, _^_, _<_}
+use Prim.Native.Nat.{ℕ, zero, suc, _-_, _<_}
 use native.Mathlib.Nat.{not-suc-le-zero, le-of-suc-le-suc}
 use mathlib.Core.List.{List, [], _∷_, map}
 use lib.ListN.{length, getD}
 use lib.Dec.{eqb}
 use Rattle.meaning.specs.Result.{_>>=_, need, known}
-use Rattle.meaning.specs.File.{StateSet, basic, complement, intersection, union, progression, regression, Step, File}
-use Rattle.meaning.specs.File.{actionSetAt, stateSetAt, stepAt}
-use Rattle.meaning.specs.Sets.{allBelow, settled, inActions, stateNode, inSet, statesWithin, actionsWithin}
-use Rattle.meaning.specs.Shapes.{kindAt, child, leafNode, leaves, isBasic, isComplement, isLiteral, literalKind, complements, others}
-use Rattle.meaning.specs.Shapes.{movedLeft, movedRight, bracket, used, ofLiterals, ofClauses, ofStates, permitted}
-use Rattle.meaning.specs.Shapes.{shape₁, shapeWith, shape₂, shape₃, mixed, shape₄}
-use Rattle.meaning.specs.Statements.{statements}
-use Rattle.meaning.specs.Rules.{Pattern, _⊢_}
-use Rattle.meaning.specs.Match.{Letters, noLetters, ofKind, ofActionKind, matchᴬ, match, matchEntries, matchStep, matchPremises}
-use Rattle.meaning.specs.Step.{Check, statement, derivation, judgementKind, premiseCount, allRules, ruleAt, entriesFit, wellFormed}
-use Rattle.meaning.specs.Step.{checkBy, checkStep}
+use Rattle.meaning.specs.File.{Step, File, stepAt}
+use Rattle.meaning.specs.Rules.{_⊢_}
+use Rattle.meaning.specs.Match.{matchStep}
+use Rattle.meaning.specs.Step.{Check, statement, derivation, judgementKind, premiseCount, ruleAt, wellFormed, checkBy, checkStep}
 use Rattle.meaning.specs.Reply.{checkSteps, checkFrom, checkFile}
 use Rattle.meaning.specs.Numbering.{withRule, rewritten}
 use Rattle.meaning.proofs.Results.{bind-same}
-use Rattle.meaning.proofs.Letters.{then-same}
+use Rattle.meaning.proofs.AlikeSteps.{all-same, step-checked, steps-checked}
 
 module _ (g : ℕ → ℕ) where
   abbrev renamed : Step → Step
@@ -54,83 +46,14 @@ module _ (g : ℕ → ℕ) where
     unfolding stepAt rewritten
     step-renamed k l = at _ (f .steps) k l
 
-    node-same : stateNode (rewritten g f) ≡ stateNode f
-    unfolding rewritten actionSetAt inActions stateNode
-    node-same = fun-ext (λ holds. fun-ext (go holds))
-      where
-        go : (holds : ℕ → ℕ → Bool) (x : StateSet) → stateNode (rewritten g f) holds x ≡ stateNode f holds x
-        go holds (basic b) = refl
-        go holds (complement a) = refl
-        go holds (intersection a b) = refl
-        go holds (union a b) = refl
-        go holds (progression a e) = refl
-        go holds (regression a e) = refl
-
-    abbrev within : ((ℕ → ℕ → Bool) → StateSet → ℕ → Bool) → ℕ → ℕ → Bool
-    within node a b =
-        let holds : ℕ → ℕ → Bool = settled (λ holds e. node holds (stateSetAt f e)) (λ s. false) in
-        allBelow (2 ^ f .task .facts) (λ s. not (holds a s) || holds b s)
-
-    within-same : statesWithin (rewritten g f) ≡ statesWithin f
-    unfolding rewritten stateSetAt inSet statesWithin
-    within-same = ap within node-same
-
-    statements-same : statements (rewritten g f) ≡ statements f
-    unfolding rewritten statements stateSetAt actionSetAt inActions actionsWithin kindAt child leafNode leaves isBasic isComplement
-        isLiteral literalKind complements others movedLeft movedRight bracket used ofLiterals ofClauses ofStates permitted shape₁
-        shapeWith shape₂ shape₃ mixed shape₄
-    statements-same =
-        ap (λ (holds : ℕ → ℕ → Bool).
-        record { kind = 1; shape = shape₁ f; holds = holds }
-        ∷ record { kind = 1; shape = shape₂ f; holds = holds }
-        ∷ record { kind = 1; shape = shape₃ f; holds = holds }
-        ∷ record { kind = 1; shape = shape₄ f; holds = holds }
-        ∷ record { kind = 2; shape = λ a b. true; holds = actionsWithin f }
-        ∷ []) within-same
-
-    rule-same : (n : ℕ) → ruleAt (rewritten g f) n ≡ ruleAt f n
-    unfolding ruleAt allRules
-    rule-same zero = refl
-    rule-same (suc n) = rw statements-same refl
-
-    match-step : (p : Pattern) (s : Step) (σ : Letters) → matchStep (rewritten g f) p s σ ≡ matchStep f p s σ
-    unfolding rewritten stateSetAt actionSetAt ofKind ofActionKind matchᴬ match matchEntries matchStep
-    match-step p s σ = refl
-
-    -- a premise's rule is not looked at
-    match-premise : (p : Pattern) (k : ℕ) (σ : Letters)
-        → matchStep (rewritten g f) p (stepAt (rewritten g f) k) σ ≡ matchStep f p (stepAt f k) σ
-    unfolding matchStep
-    match-premise p k σ = match-step p (stepAt (rewritten g f) k) σ ∙ ap (λ (s : Step). matchStep f p s σ) (step-stays k)
-
-    match-premises : (ps : List Pattern) (ks : List ℕ) (σ : Letters) → matchPremises (rewritten g f) ps ks σ ≡ matchPremises f ps ks σ
-    unfolding matchPremises
-    match-premises [] ks σ = refl
-    match-premises (p ∷ ps) [] σ = refl
-    match-premises (p ∷ ps) (k ∷ ks) σ = then-same _ _ _ _ (match-premise p k σ) (match-premises ps ks)
-
-    check-same : (i : ℕ) (s : Step) (c : Check) → checkBy (rewritten g f) i s c ≡ checkBy f i s c
-    unfolding checkBy
-    check-same i s (statement b) = refl
-    check-same i s (derivation (ps ⊢ c)) =
-        bind-same (ap (λ (o : Option Letters). known o 9 i) (match-step c s noLetters))
-        (λ σ. bind-same (ap (λ (o : Option Letters). known o 9 i) (match-premises ps (s .premises) σ)) (λ _. refl))
-
-    well-formed-same : (i : ℕ) (s : Step) (j k : ℕ) → wellFormed (rewritten g f) i s j k ≡ wellFormed f i s j k
-    unfolding rewritten wellFormed entriesFit
-    well-formed-same i s j k = refl
-
     -- a step is checked as in the plain file
     pub checked-same : (i : ℕ) (s : Step) → checkStep (rewritten g f) i s ≡ checkStep f i s
-    unfolding checkStep
-    checked-same i s =
-        bind-same (ap (λ (o : Option Check). known o 8 i) (rule-same (s .rule)))
-        (λ r. bind-same (ap (λ b. need b 8 i) (well-formed-same i s (judgementKind r) (premiseCount r))) (λ _. check-same i s r))
+    unfolding rewritten
+    checked-same = step-checked f (f .stateSets) (map renamed (f .steps)) (all-same (f .stateSets)) step-stays
 
     all-checked-same : (i : ℕ) (ss : List Step) → checkSteps (rewritten g f) i ss ≡ checkSteps f i ss
-    unfolding checkSteps
-    all-checked-same i [] = refl
-    all-checked-same i (s ∷ ss) = bind-same (checked-same i s) (λ _. all-checked-same (suc i) ss)
+    unfolding rewritten
+    all-checked-same = steps-checked f (f .stateSets) (map renamed (f .steps)) (all-same (f .stateSets)) step-stays
 
 -- ---- numbers that stand for the same rules
 
