@@ -31,11 +31,11 @@ use Rattle.meaning.proofs.Stages.{Stage, fault, fine, breach, second, l
 -- ---- kinds of entry
 
 -- an entry at place p, from its kind on
-abbrev Tail : {A : Type 0} → ℕ → ℕ → Kind A → Result A
+abbrev pub Tail : {A : Type 0} → ℕ → ℕ → Kind A → Result A
 Tail p len k = need (k .fits len) 4 p >>= λ _. need (k .allowed len) 19 p >>= λ _. k .body (p + 3) len
 
 -- how many states an entry of kind j lists
-abbrev statesOf : ℕ → ℕ → ℕ
+abbrev pub statesOf : ℕ → ℕ → ℕ
 statesOf j len = elim (eqb j 3) [ true ↦ len / 8 | false ↦ 0 ]
 
 none-beyond : (j len : ℕ) → statesOf (suc (suc (suc (suc j)))) len ≡ 0
@@ -43,7 +43,7 @@ none-beyond j len = rw (ne-eqb (suc (suc (suc (suc j)))) 3 (λ e. omega arith), 
 
 module _ (most : ℕ) where
   -- a kind under limits beside the full one, where an entry of a length lists `states len` states
-  abbrev Pair : {A : Type 0} → (ℕ → ℕ) → Kind A → Kind A → Type 0
+  abbrev pub Pair : {A : Type 0} → (ℕ → ℕ) → Kind A → Kind A → Type 0
   Pair states k k′ =
       (p len hi : ℕ) → p + 3 + len ≤ hi → Stage p hi (λ _. Unit {0}) (Tail p len k) (Tail p len k′) (above most (states len) p)
 
@@ -61,7 +61,7 @@ module _ (most : ℕ) where
 
   -- kind by kind, where an entry of kind j lists `states j len` states, and one of no kind none
   infixr 5 _&_
-  data Table {A : Type 0} : (ℕ → ℕ → ℕ) → List (Kind A) → List (Kind A) → Type 0 where
+  pub data Table {A : Type 0} : (ℕ → ℕ → ℕ) → List (Kind A) → List (Kind A) → Type 0 where
     end : {states : ℕ → ℕ → ℕ} → ((j len : ℕ) → states j len ≡ 0) → Table states [] []
     _&_ : {states : ℕ → ℕ → ℕ} {k k′ : Kind A} {ks ks′ : List (Kind A)}
         → Pair (states 0) k k′ → Table (λ j. states (suc j)) ks ks′ → Table states (k ∷ ks) (k′ ∷ ks′)
@@ -84,7 +84,7 @@ module _ (most : ℕ) where
   few-listed size most′ p len t =
       rw (few size most′ len t) (limit most (len / size) p (upTo size most′ len) (omega arith) (omega arith) t)
 
-  action-table : (bytes : List ℕ) (m i : ℕ) → Table (λ j len. 0) (actionKinds bytes m i) (actionKinds bytes m i)
+  pub action-table : (bytes : List ℕ) (m i : ℕ) → Table (λ j len. 0) (actionKinds bytes m i) (actionKinds bytes m i)
   unfolding actionKinds plain two
   action-table bytes m i =
       free _ (plain-in all) (λ _. tt)
@@ -92,7 +92,7 @@ module _ (most : ℕ) where
       & free _ (two-in bytes either i i) (λ _. tt)
       & end (λ _ _. refl)
 
-  state-table : (bytes : List ℕ) (n m i : ℕ) → Table statesOf (stateKinds bytes most n m i) (stateKinds bytes (full .states) n m i)
+  pub state-table : (bytes : List ℕ) (n m i : ℕ) → Table statesOf (stateKinds bytes most n m i) (stateKinds bytes (full .states) n m i)
   unfolding stateKinds plain one two clauses
   state-table bytes n m i =
       free _ (plain-in (basic empty)) (λ _. tt)
@@ -114,7 +114,7 @@ module _ (most : ℕ) where
 
 module _ (bytes : List ℕ) where
   -- the places do not go back
-  after-from : (p k : ℕ) → p ≤ afterEntries bytes p k
+  pub after-from : (p k : ℕ) → p ≤ afterEntries bytes p k
   unfolding afterEntries
   after-from p zero = le-refl p
   after-from p (suc k) = let h = after-from (p + 2 + number 2 bytes p) k in omega arith
@@ -126,10 +126,10 @@ module _ (bytes : List ℕ) where
       from-append (from-above most _ p (le-refl p)) (from-lower (omega arith) (from-long most (p + 2 + number 2 bytes p) k))
 
   -- the breach of the entry at place p, if it is one
-  abbrev breachAt : ℕ → (ℕ → ℕ → ℕ) → ℕ → List ℕ
+  abbrev pub breachAt : ℕ → (ℕ → ℕ → ℕ) → ℕ → List ℕ
   breachAt most states p = above most (states (number 1 bytes (p + 2)) (number 2 bytes p - 1)) p
 
-  entry-stage : {A : Type 0} (most : ℕ) {states : ℕ → ℕ → ℕ} {ks ks′ : List (Kind A)} → Table most states ks ks′ → (p : ℕ)
+  pub entry-stage : {A : Type 0} (most : ℕ) {states : ℕ → ℕ → ℕ} {ks ks′ : List (Kind A)} → Table most states ks ks′ → (p : ℕ)
       → Stage p (p + 2 + number 2 bytes p) (λ _. Unit {0}) (entry bytes ks p) (entry bytes ks′ p) (breachAt most states p)
   unfolding entry
   entry-stage most {states} table p =
@@ -188,7 +188,7 @@ file-stage l bytes =
     need-first _ 1 tt (omega arith) f₀ λ _ _.
     bind 1 (omega arith) (omega arith) (from-lower (omega arith) f)
     (limit (l .size) (length bytes) 0 _ (omega arith) (omega arith) (and-out (leb 4 (length bytes)) _ t .1)) λ _ _.
-    first-same A (omega arith) (omega arith) (from-lower (omega arith) f) (task-in 1 A bytes (omega arith) (le-refl A)) λ t e. rw e
+    first-same A (omega arith) (omega arith) (from-lower (omega arith) f) (task-in 1 A bytes (omega arith) (le-refl A)) λ t e. rw (e .1)
     (first-same (A + 2) (omega arith) (omega arith) (from-lower (omega arith) f)
     (count-in A (A + 2) bytes 0 256 A (omega arith) (omega arith)) λ ac c. rw (c .0)
     (bind S after (omega arith) (from-lower (omega arith) f)

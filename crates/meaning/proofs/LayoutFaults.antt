@@ -104,17 +104,18 @@ module _ (lo hi : ℕ) where
     -- ---- the task
 
     pub task-in : lo ≤ 4 → 24 + 24 * number 2 bytes 22 ≤ hi
-        → Yields (Within lo hi) (λ t. t .1 ≡ 24 + 24 * number 2 bytes 22) (readTask bytes)
+        → Yields (Within lo hi) (λ t. (t .0 .facts ≡ number 1 bytes 5) × (t .1 ≡ 24 + 24 * number 2 bytes 22)) (readTask bytes)
     unfolding readTask
     task-in l h =
         then-ok (field-in 1 4 l (omega arith)) (λ _ _.
         then-ok (need-within _ 2 4 tt l (omega arith)) (λ _ _.
-        then-ok (field-in 1 5 (omega arith) (omega arith)) (λ n _.
+        then-ok (field-in 1 5 (omega arith) (omega arith)) (λ n i.
         then-ok (need-within _ 4 5 tt (omega arith) (omega arith)) (λ _ _.
         then-ok (mask-in n 6 (omega arith) (omega arith)) (λ _ _.
         then-ok (mask-in n 14 (omega arith) (omega arith)) (λ _ _.
         then-ok (count-in 0 256 22 (omega arith) (omega arith)) (λ m e.
-        then-ok (items-in _ 24 (action-in n) m 24 (omega arith) (omega arith)) (λ _ _. given (ap (λ (k : ℕ). 24 + 24 * k) (e .0))))))))))
+        then-ok (items-in _ 24 (action-in n) m 24 (omega arith) (omega arith)) (λ _ _.
+        given (i, ap (λ (k : ℕ). 24 + 24 * k) (e .0))))))))))
 
 -- ---- bodies of entries, of a length that fits the kind
 

@@ -25,7 +25,6 @@ pub mod Paths
 pub mod RulesSound
 pub mod Letters
 pub mod Same
-pub mod Alike
 pub mod Matching
 pub mod Holds
 pub mod Computed
@@ -45,3 +44,8 @@ pub mod Certain
 pub mod Shallow
 pub mod Refusals
 pub mod Limited
+pub mod Relisted
+pub mod RelistedParts
+pub mod Twins
+pub mod RelistedSets
+pub mod RelistedReads

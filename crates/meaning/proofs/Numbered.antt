@@ -1,6 +1,6 @@
 -- What a check yields: a refusal whose number and place have one property, or a value that has another.
 -- Assumes nothing.
-use mathlib.Core.Path.{_≡_}
+use mathlib.Core.Path.{_≡_, refl, ap, _∙_}
 use Prim.Native.Nat.{ℕ}
 use native.Mathlib.Omega.{arith}
 use mathlib.Core.Bool.{Bool, true, false}
@@ -27,10 +27,21 @@ unfolding _>>=_
 then-ok (refused h) k = refused h
 then-ok (given {a} h) k = k a h
 
+-- the same one after the other, where what comes second is the same for such a value
+pub then-same : {ok : ℕ → ℕ → Type 0} {A B : Type 0} {P : A → Type 0} {x y : Result A} {g h : A → Result B}
+    → Yields ok P x → x ≡ y → ((a : A) → P a → g a ≡ h a) → (x >>= g) ≡ (y >>= h)
+unfolding _>>=_
+then-same {h = h} (refused _) e k = ap (λ z. z >>= h) e
+then-same {h = h} (given {a} p) e k = k a p ∙ ap (λ z. z >>= h) e
+
 pub need-ok : {ok : ℕ → ℕ → Type 0} (b : Bool) (r p : ℕ) → ok r p → Yields ok (λ _. T b) (need b r p)
 unfolding need
 need-ok true r p h = given tt
 need-ok false r p h = refused h
+
+pub need-same : {B : Type 0} (b : Bool) (r p : ℕ) {g h : Unit {0} → Result B} → ((u : Unit {0}) → T b → g u ≡ h u)
+    → (need b r p >>= g) ≡ (need b r p >>= h)
+need-same b r p = then-same (need-ok {ok = λ _ _. Unit {0}} b r p tt) refl
 
 pub known-ok : {ok : ℕ → ℕ → Type 0} {A : Type 0} (o : Option A) (r p : ℕ) → ok r p → Numbered ok (known o r p)
 unfolding known

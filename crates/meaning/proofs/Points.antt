@@ -15,7 +15,8 @@ use Rattle.meaning.specs.Points.{RewrittenAlike, NumberedIsSafe, Numbere
 use Rattle.meaning.specs.Points.{HandsBack, RunIsSafe, RoundSays, EndsElsewhere, OutsideEntries, RoundCases, QuestionsBetween}
 use Rattle.meaning.specs.Points.{OutsideFitsLetters, RoundRefusals, FullLimits, RepliesAlike, FirstBreach, SmallIsAccepted}
 use Rattle.meaning.specs.Points.{SmallIsSafe, CertainLength, SmallSafeIsAccepted, SmallCertainCertificate, LimitCases}
-use Rattle.meaning.specs.Points.{LimitRefusals}
+use Rattle.meaning.specs.Points.{LimitRefusals, OrderAlike, LimitedOrderAlike, NumberedOrderAlike, RoundOrderAlike}
+use Rattle.meaning.specs.Points.{AnswerOrderAlike, NoOrderFault, OrderCases}
 use Rattle.meaning.proofs.Computed.{computed}
 use Rattle.meaning.proofs.Judgements.{judgements-true, accepted-is-safe}
 use Rattle.meaning.proofs.Certain.{certain-certificate, safe-is-accepted, certain-length, small-safe-is-accepted}
@@ -28,6 +29,8 @@ use Rattle.meaning.proofs.Renumber.{renumbered}
 use Rattle.meaning.proofs.Rewriting.{plain-numbers, rewriting-is-bijective, rewritten-is-read, rewritten-alike, numbered-is-safe}
 use Rattle.meaning.proofs.Outside.{outside-fits-letters}
 use Rattle.meaning.proofs.Rounds.{round-says, hands-back, one-round}
+use Rattle.meaning.proofs.RelistedReads.{order-alike, limited-order-alike, numbered-order-alike, round-order-alike}
+use Rattle.meaning.proofs.RelistedReads.{answer-order-alike, no-order-fault}
 use Rattle.meaning.proofs.Runs.{run-is-check, run-ends, run-is-safe, fewest-rounds, questions-between}
 
 pub the-sample-has-234-bytes : SampleLength
@@ -173,3 +176,25 @@ the-sample-meets-and-breaks-limits = (refl, refl, refl, refl, refl, refl, refl, 
 
 pub a-refusal-with-limits-has-its-number : LimitRefusals
 a-refusal-with-limits-has-its-number = limit-refusals
+
+pub the-order-of-states-changes-no-reply : OrderAlike
+the-order-of-states-changes-no-reply = order-alike
+
+pub the-order-of-states-changes-no-reply-under-limits : LimitedOrderAlike
+the-order-of-states-changes-no-reply-under-limits = limited-order-alike
+
+pub the-order-of-states-changes-no-reply-with-a-list : NumberedOrderAlike
+the-order-of-states-changes-no-reply-with-a-list = numbered-order-alike
+
+pub the-order-of-states-changes-no-round : RoundOrderAlike
+the-order-of-states-changes-no-round = round-order-alike
+
+pub the-order-of-states-changes-no-answer : AnswerOrderAlike
+the-order-of-states-changes-no-answer = answer-order-alike
+
+pub an-explicit-set-is-not-refused-with-7 : NoOrderFault
+an-explicit-set-is-not-refused-with-7 = no-order-fault
+
+pub the-sample-lists-its-states-in-any-order : OrderCases
+unfolding computed
+the-sample-lists-its-states-in-any-order = (refl, refl, refl, refl, refl, refl)
