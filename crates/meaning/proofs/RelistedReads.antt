@@ -3,7 +3,7 @@
 -- Assumes nothing.
 use mathlib.Core.Path.{_≡_, refl, ap}
 use mathlib.Core.Logic.{_⊎_, inl, inr}
-use Prim.Native.Nat.{ℕ, _+_, _*_}
+use Prim.Native.Nat.{ℕ, _+_, _*_, _<_}
 use native.Mathlib.Omega.{arith}
 use mathlib.Core.Option.{some}
 use mathlib.Core.List.{List}
@@ -108,11 +108,12 @@ module _ {A R : Type 0} (say : ℕ → ℕ → R) (finish : Result A → R) (ref
     (check : File → Result A) (checks : (f g : File) → Alike f g → check f ≡ check g) where
   said : {a b : List ℕ} {x y : Result File} → Twin a b Alike x y
       → (finish (x >>= check) ≡ finish (y >>= check))
-      ⊎ ((e : ℕ) × (p : ℕ) × (q : ℕ) × (getElem? (wrongIn a e) 0 ≡ some p) × (getElem? (wrongIn b e) 0 ≡ some q)
+      ⊎ ((e : ℕ) × (p : ℕ) × (q : ℕ) × (e < setCount a)
+      × (getElem? (wrongIn a e) 0 ≡ some p) × (getElem? (wrongIn b e) 0 ≡ some q)
       × (finish (x >>= check) ≡ say 5 p) × (finish (y >>= check) ≡ say 5 q))
   unfolding _>>=_
   said (alike n) = inl refl
-  said (wrong e {p} {q} v w) = inr (e, p, q, v, w, refusals 5 p, refusals 5 q)
+  said (wrong e {p} {q} l v w) = inr (e, p, q, l, v, w, refusals 5 p, refusals 5 q)
   said (both {x = f} {y = g} h) = inl (ap finish (checks f g h))
 
   any-order : (l : Limits) → SameInAnyOrder say (λ bytes. finish (readWithin l bytes >>= check))
@@ -159,7 +160,7 @@ no-seven : {a b : List ℕ} {x y : Result File} → Twin a b Alike x y
     → (p : ℕ) → replyTo (x >>= checkFile) ≡ Refused 7 p → InState a p → ⊥
 unfolding replyTo _>>=_
 no-seven (alike {r = r} {p = q} n) p e s = let i : r ≡ 7 = cc in let j : q ≡ p = cc in n i (rw j s)
-no-seven (wrong e v w) p i s = let z : _≡_ {A = ℕ} 5 7 = cc in omega arith
+no-seven (wrong e l v w) p i s = let z : _≡_ {A = ℕ} 5 7 = cc in omega arith
 no-seven (both {x = f} g) p e s = let h = reply-number (check-ok f) 7 p e in omega arith
 
 pub no-order-fault : NoOrderFault

@@ -66,14 +66,14 @@ carry t xs ys h e = every-of t ys (λ s m. every-at t xs s e (subst T (sym (h s)
 
 -- what an explicit set lists, of two files where its states pass or fail together
 listed-twin : {a b : List ℕ} (e : ℕ) {pass pass′ : Bool} {ss ss′ : List ℕ} {x y : Result (List ℕ)}
-    → (T pass → T pass′) → (T pass′ → T pass)
+    → e < setCount a → (T pass → T pass′) → (T pass′ → T pass)
     → ((s : ℕ) → member s ss ≡ member s ss′) → Listed pass ss (wrongIn a e) x → Listed pass′ ss′ (wrongIn b e) y
     → Twin a b AlikeSet (x >>= λ ss. found (basic (explicit ss))) (y >>= λ ss. found (basic (explicit ss)))
 unfolding _>>=_
-listed-twin e {ss = ss} {ss′} f g h (fine t) (fine t′) = both (listed ss ss′ h)
-listed-twin e {pass′ = pass′} f g h (fine t) (bad t′ w) = absurd (T-not pass′ t′ (f t))
-listed-twin e {pass} f g h (bad t w) (fine t′) = absurd (T-not pass t (g t′))
-listed-twin e f g h (bad t v) (bad t′ w) = wrong e v w
+listed-twin e {ss = ss} {ss′} l f g h (fine t) (fine t′) = both (listed ss ss′ h)
+listed-twin e {pass′ = pass′} l f g h (fine t) (bad t′ w) = absurd (T-not pass′ t′ (f t))
+listed-twin e {pass} l f g h (bad t w) (fine t′) = absurd (T-not pass t (g t′))
+listed-twin e l f g h (bad t v) (bad t′ w) = wrong e l v w
 
 -- a set of another kind lists none
 lists-none : (bytes : List ℕ) (p : ℕ) → T (not (eqb (number 1 bytes (p + 2)) 3)) → listedAt bytes p ≡ 0
@@ -101,7 +101,7 @@ module _ {a b : List ℕ} (r : Relisted a b) where
       let k = listed-same r e in
       let f = number-same r 1 5 (λ p _ u. free-before a p (omega arith) (omega arith)) in
       let m : (s : ℕ) → member s A ≡ member s B = r .states e l in
-      listed-twin e {pass = every t A} {pass′ = every t B} (carry t A B m) (carry t B A (λ s. sym (m s))) m
+      listed-twin e {pass = every t A} {pass′ = every t B} l (carry t A B m) (carry t B A (λ s. sym (m s))) m
       (listed-read a (listedAt a (setAt a e)) (setAt a e + 3) h)
       (rw (k, p, f) (listed-read b (listedAt b (setAt b e)) (setAt b e + 3) (omega arith)))
 

@@ -17,7 +17,7 @@ use Rattle.meaning.specs.Relisted.{wrongIn, InState}
 use Rattle.meaning.proofs.Numbered.{Yields, refused, given, need-ok, widen}
 use Rattle.meaning.proofs.LayoutFaults.{Within}
 use Rattle.meaning.proofs.Stages.{Stage, fault, fine, breach}
-use Rattle.meaning.proofs.Relisted.{after-suc, Free}
+use Rattle.meaning.proofs.Relisted.{setCount, after-suc, Free}
 
 -- a refusal that is not 7 in a listed state
 abbrev pub NoOrder : List ℕ → ℕ → ℕ → Type 0
@@ -26,7 +26,7 @@ NoOrder a r p = r ≡ 7 → InState a p → ⊥
 -- Two readings: the same refusal; 5 in each at the first wrong state of the same set; or values that go together.
 pub data Twin (a b : List ℕ) {A : Type 0} (Good : A → A → Type 0) : Result A → Result A → Type 0 where
   alike : {r p : ℕ} → NoOrder a r p → Twin a b Good (refuse r p) (refuse r p)
-  wrong : (e : ℕ) {p q : ℕ} → getElem? (wrongIn a e) 0 ≡ some p → getElem? (wrongIn b e) 0 ≡ some q
+  wrong : (e : ℕ) {p q : ℕ} → e < setCount a → getElem? (wrongIn a e) 0 ≡ some p → getElem? (wrongIn b e) 0 ≡ some q
       → Twin a b Good (refuse 5 p) (refuse 5 q)
   both : {x y : A} → Good x y → Twin a b Good (found x) (found y)
 
@@ -35,7 +35,7 @@ module _ {a b : List ℕ} where
       → Twin a b Good x y → ((u v : A) → Good u v → Twin a b Good′ (g u) (h v)) → Twin a b Good′ (x >>= g) (y >>= h)
   unfolding _>>=_
   bind (alike n) k = alike n
-  bind (wrong e v w) k = wrong e v w
+  bind (wrong e l v w) k = wrong e l v w
   bind (both {x} {y} g) k = k x y g
 
   -- ---- parts that are the same

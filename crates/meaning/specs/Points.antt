@@ -12,7 +12,7 @@ use Rattle.task.specs.Task.{Task}
 use Rattle.task.specs.Reach.{member, every, Safe, Unsolvable, Dead, Reachable, AtMostReachable}
 use Rattle.task.specs.System.{System, States, Actions}
 use Rattle.meaning.specs.Result.{found}
-use Rattle.meaning.specs.Bytes.{AreBytes}
+use Rattle.meaning.specs.Bytes.{number, AreBytes}
 use Rattle.meaning.specs.File.{File, stepAt}
 use Rattle.meaning.specs.declared.Limits.{Limits}
 use Rattle.meaning.specs.Limits.{full, small}
@@ -33,6 +33,7 @@ use Rattle.meaning.specs.Question.{depth, hasProgression, shallow, answe
 use Rattle.meaning.specs.Rounds.{lawfulCount, roundOf, runFrom, run, atEnd, roundsFor, Call, session, countsOf, answersOf}
 use Rattle.meaning.specs.Rounds.{premisesOf, namedSets}
 use Rattle.meaning.specs.Small.{replyWithin, replySmall, breaches, Before}
+use Rattle.meaning.specs.Structure.{stateSetCount}
 use Rattle.meaning.specs.Relisted.{wrongIn, InState, Relisted}
 use Rattle.meaning.specs.Cases.{Case, cases, word, sample, fileBytes, explicit012, stepBytes, firstSteps, allSteps}
 use Rattle.meaning.specs.Certain.{certificateOf}
@@ -325,7 +326,8 @@ abbrev pub SameInAnyOrder : {R : Type 0} → (ℕ → ℕ → R) → (List ℕ �
 SameInAnyOrder refused said =
     (a b : List ℕ) → Relisted a b
     → (said a ≡ said b)
-    ⊎ ((e : ℕ) × (p : ℕ) × (q : ℕ) × (getElem? (wrongIn a e) 0 ≡ some p) × (getElem? (wrongIn b e) 0 ≡ some q)
+    ⊎ ((e : ℕ) × (p : ℕ) × (q : ℕ) × (e < number 2 a (stateSetCount a))
+    × (getElem? (wrongIn a e) 0 ≡ some p) × (getElem? (wrongIn b e) 0 ≡ some q)
     × (said a ≡ refused 5 p) × (said b ≡ refused 5 q))
 
 -- So are the reply to a file, whatever the limits and the rule numbers, a round of it and the answer to a question.
