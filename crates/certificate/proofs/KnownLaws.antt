@@ -39,6 +39,9 @@ module _ (bytes : List ℕ) (r : IsRead bytes) where
   pub read-file : Read bytes (decoded bytes)
   read-file = file-read bytes (decoded bytes) r
 
+  pub read-short : length bytes ≤ 65536
+  read-short = places-fit bytes (decoded bytes) r .short
+
   pub read-ordered : Ordered (decoded bytes)
   read-ordered = ordered bytes (decoded bytes) read-file
 

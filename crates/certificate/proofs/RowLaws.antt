@@ -19,7 +19,7 @@ use Rattle.certificate.specs.Rows.{firstRow, byRows, rowOf, stateIn, InO
 
 module _ (index : List ℕ) (x : Span) where
   -- one state has none
-  few-none : x .count ≤ 1 → byRows index x ≡ false
+  pub few-none : x .count ≤ 1 → byRows index x ≡ false
   unfolding byRows
   few-none l = rw (is-false (ltb 1 (x .count)) (λ t. let m = ltb→lt 1 (x .count) t in omega arith)) refl
 
@@ -32,16 +32,20 @@ module _ (index : List ℕ) (x : Span) where
       go true = refl
       go false = refl
 
-  two-rows : 1 < x .count → (getD index (firstRow (x .at)) 0 ≡ getD index (firstRow (x .at) + 1) 0 → ⊥) → byRows index x ≡ true
+  -- of two or more the first two rows tell
+  pub many-rows : 1 < x .count → not (eqb (getD index (firstRow (x .at)) 0) (getD index (firstRow (x .at) + 1) 0)) ≡ byRows index x
   unfolding byRows
-  two-rows l n = rw (is-true (ltb 1 (x .count)) (lt→ltb 1 (x .count) l), ne-eqb _ _ n) refl
+  many-rows l = rw (is-true (ltb 1 (x .count)) (lt→ltb 1 (x .count) l)) refl
+
+  two-rows : 1 < x .count → (getD index (firstRow (x .at)) 0 ≡ getD index (firstRow (x .at) + 1) 0 → ⊥) → byRows index x ≡ true
+  two-rows l n = sym (many-rows l) ∙ ap not (ne-eqb _ _ n)
 
   -- the numbers, as they stand and by rows
-  row-none : byRows index x ≡ false → (k : ℕ) → rowOf index x k ≡ k
+  pub row-none : byRows index x ≡ false → (k : ℕ) → rowOf index x k ≡ k
   unfolding rowOf
   row-none e k = rw (e, rowOf) refl
 
-  row-some : byRows index x ≡ true → (k : ℕ) → rowOf index x k ≡ getD index (firstRow (x .at) + k) 0
+  pub row-some : byRows index x ≡ true → (k : ℕ) → rowOf index x k ≡ getD index (firstRow (x .at) + k) 0
   unfolding rowOf
   row-some e k = rw (e, rowOf) refl
 
@@ -121,6 +125,16 @@ module _ {bytes index : List ℕ} {x : Span} where
 
       state : (k : ℕ) → stateIn bytes index x k ≡ stateAt bytes (x .at) (getD index (firstRow (x .at) + k) 0)
       state k = ap (λ (r : ℕ). numberAt 8 bytes (x .at + 8 * r)) (row k)
+
+-- where there are no states, they are
+pub none-in-order : (bytes index : List ℕ) → length bytes ≤ 65536 → InOrder bytes index (record { at = 0; count = 0 })
+none-in-order bytes index short = record {
+  inside = omega arith;
+  short = short;
+  below = λ k l. absurd (omega arith);
+  every = λ j l. absurd (omega arith);
+  ascend = λ i j l m. absurd (omega arith);
+}
 
 -- rows put behind them leave states in order
 pub in-order-kept : {bytes was is : List ℕ} {x : Span} {from n : ℕ} → InOrder bytes was x → Kept was is from n

@@ -19,7 +19,7 @@ use Rattle.meaning.specs.File.{File, stateSetAt, stateKind, basicKind, Basic, e
 use Rattle.meaning.specs.File.{horn, twoCnf, StateSet, basic}
 use Rattle.meaning.specs.Sets.{allBelow, meets, inBasic, inSet}
 use Rattle.meaning.specs.Shapes.{kindAt}
-use Rattle.meaning.specs.Writing.{Ascending, AllFrom, FitsClauses, FitsBasic, FitsStateSet}
+use Rattle.meaning.specs.Writing.{AllFrom, FitsClauses, FitsBasic, FitsStateSet}
 use Rattle.meaning.proofs.Below.{all-at, all-of}
 use Rattle.meaning.proofs.Order as order
 use Rattle.bytes.specs.Numbers.{numberAt, clauseAt}
@@ -28,15 +28,18 @@ use Rattle.words.specs.Words.{wordsAt}
 use Rattle.certificate.specs.declared.BasicEntry.{BasicEntry}
 use Rattle.certificate.specs.declared.BasicEntry.the-variants.{Empty, Init, Goal, Explicit, Horn, TwoCnf}
 use Rattle.certificate.specs.Views.{span, viewOf, viewOfBasic}
+use Rattle.certificate.specs.declared.StateEntry.{StateEntry}
 use Rattle.certificate.specs.Index.{statePlace}
+use Rattle.certificate.specs.Rows.{listedBy, statesOf, InOrder}
 use Rattle.certificate.specs.Known.{Known, decoded}
 use Rattle.certificate.proofs.ItemLaws.{Items}
 use Rattle.certificate.proofs.EntryLaws.{BasicItems, StateItems}
-use Rattle.certificate.proofs.KnownLaws.{read-file, read-ordered, known-state-set}
+use Rattle.certificate.proofs.RowLaws.{none-in-order}
+use Rattle.certificate.proofs.KnownLaws.{read-file, read-short, read-ordered, known-state-set}
 use Rattle.counterexample.proofs.Lists.{every-index}
 use Rattle.counterexample.proofs.LeafLaws.{in-basic}
 use Rattle.leaves.specs.Leaves.{kindOf, basicIn, setOf}
-use Rattle.leaves.specs.Holds.{statesAt, InOrder, meetsAll, setHolds, Orderly, Ruled}
+use Rattle.leaves.specs.Holds.{statesAt, meetsAll, setHolds, Orderly, Ruled}
 
 -- ---- items
 
@@ -86,49 +89,47 @@ all-member P i [] h x m = absurd (member-none x m)
 all-member P i (y ∷ ys) h x m =
     elim (member-cases x y ys m) [ inl e ↦ subst P (sym e) (h .0) | inr r ↦ all-member P (suc i) ys (h .1) x r ]
 
--- within the limits of a task: listed states ascend and are states of n facts; clauses keep their kind's rule
-abbrev pub WithinLimits : List ℕ → ℕ → BasicEntry → Type 0
-WithinLimits bytes n Empty = Unit {0}
-WithinLimits bytes n Init = Unit {0}
-WithinLimits bytes n Goal = Unit {0}
-WithinLimits bytes n (Explicit x) =
-    InOrder bytes (x .at) (x .count) × ((s : ℕ) → T (member s (statesAt bytes (x .at) (x .count))) → s < 2 ^ n)
-WithinLimits bytes n (Horn x) = Ruled bytes false x
-WithinLimits bytes n (TwoCnf x) = Ruled bytes true x
+-- within the limits of a task: listed states are in order and states of n facts; clauses keep their kind's rule
+abbrev pub WithinLimits : List ℕ → List ℕ → ℕ → BasicEntry → Type 0
+WithinLimits bytes index n Empty = Unit {0}
+WithinLimits bytes index n Init = Unit {0}
+WithinLimits bytes index n Goal = Unit {0}
+WithinLimits bytes index n (Explicit x) =
+    InOrder bytes index x × ((s : ℕ) → T (member s (statesAt bytes (x .at) (x .count))) → s < 2 ^ n)
+WithinLimits bytes index n (Horn x) = Ruled bytes false x
+WithinLimits bytes index n (TwoCnf x) = Ruled bytes true x
 
-pub limits-orderly : (bytes : List ℕ) (n : ℕ) (x : BasicEntry) → WithinLimits bytes n x → Orderly bytes x
-limits-orderly bytes n Empty h = tt
-limits-orderly bytes n Init h = tt
-limits-orderly bytes n Goal h = tt
-limits-orderly bytes n (Explicit x) h = h .0
-limits-orderly bytes n (Horn x) h = h .inside
-limits-orderly bytes n (TwoCnf x) h = h .inside
+pub limits-orderly : (bytes index : List ℕ) (n : ℕ) (x : BasicEntry) → WithinLimits bytes index n x → Orderly bytes index x
+limits-orderly bytes index n Empty h = tt
+limits-orderly bytes index n Init h = tt
+limits-orderly bytes index n Goal h = tt
+limits-orderly bytes index n (Explicit x) h = h .0
+limits-orderly bytes index n (Horn x) h = h .inside
+limits-orderly bytes index n (TwoCnf x) h = h .inside
 
 -- a leaf's set that stands for a basic set of a task
-record StandsFor (bytes : List ℕ) (t : Task) (b : Basic) (x : BasicEntry) : Type 0 where
+record StandsFor (bytes index : List ℕ) (t : Task) (b : Basic) (x : BasicEntry) : Type 0 where
   kind : kindOf x ≡ basicKind b
   holds : (s : ℕ) → setHolds bytes (endsOf t) x s ≡ inBasic t b s
-  limits : WithinLimits bytes (t .facts) x
+  limits : WithinLimits bytes index (t .facts) x
 
-module _ (bytes : List ℕ) (t : Task) (p : ℕ) where
-  stands-for : (b : Basic) → BasicItems bytes p b → FitsBasic (t .facts) b → StandsFor bytes t b (viewOfBasic p b)
-  unfolding kindOf basicKind setHolds meetsAll viewOfBasic span inBasic clauseRule
-  stands-for empty h z = record { kind = refl; holds = λ s. refl; limits = tt }
-  stands-for init h z = record { kind = refl; holds = λ s. sym (init-ends t s); limits = tt }
-  stands-for goal h z = record { kind = refl; holds = λ s. sym (goal-ends t s); limits = tt }
-  stands-for (explicit ss) h z =
+module _ (bytes index : List ℕ) (t : Task) (p : ℕ) where
+  stands-for : (b : Basic) → BasicItems bytes p b → InOrder bytes index (listedBy (viewOfBasic p b)) → FitsBasic (t .facts) b
+      → StandsFor bytes index t b (viewOfBasic p b)
+  unfolding kindOf basicKind setHolds meetsAll listedBy viewOfBasic span inBasic clauseRule
+  stands-for empty h o z = record { kind = refl; holds = λ s. refl; limits = tt }
+  stands-for init h o z = record { kind = refl; holds = λ s. sym (init-ends t s); limits = tt }
+  stands-for goal h o z = record { kind = refl; holds = λ s. sym (goal-ends t s); limits = tt }
+  stands-for (explicit ss) h o z =
       let e = states-stand bytes (p + 3) ss h in
       record {
         kind = refl;
         holds = λ s. ap (member s) e;
-        limits = (
-          record { inside = h .inside; ascend = subst (Ascending 0) (sym e) (z .1) },
-          (λ s m. all-member (λ x. x < 2 ^ t .facts) 0 ss (z .2) s (subst (λ (ys : List ℕ). T (member s ys)) e m)),
-        );
+        limits = (o, λ s m. all-member (λ x. x < 2 ^ t .facts) 0 ss (z .1) s (subst (λ (ys : List ℕ). T (member s ys)) e m));
       }
-  stands-for (horn cs) h z =
+  stands-for (horn cs) h o z =
       record { kind = refl; holds = clauses-met bytes (p + 3) cs h; limits = clauses-ruled bytes (p + 3) cs h (t .facts) false z }
-  stands-for (twoCnf cs) h z =
+  stands-for (twoCnf cs) h o z =
       record { kind = refl; holds = clauses-met bytes (p + 3) cs h; limits = clauses-ruled bytes (p + 3) cs h (t .facts) true z }
 
 -- ---- entries of a checked file
@@ -148,13 +149,26 @@ module _ (bytes : List ℕ) (index : List ℕ) (k : Known bytes index) where
             subst (StateItems bytes (statePlace index e)) (sym (List·getD-eq-default (f .stateSets) (basic empty) past)) tt
       ]
 
+  -- the states that it lists are in order
+  known-order : (e : ℕ) → InOrder bytes index (statesOf (viewOf (statePlace index e) (stateSetAt (decoded bytes) e)))
+  unfolding stateSetAt viewOf viewOfBasic statesOf listedBy
+  known-order e =
+      elim (decLt e (length (f .stateSets))) [
+        | yes l ↦ subst (λ (x : StateEntry). InOrder bytes index (statesOf x)) (known-state-set bytes index k e l .view) (k .ordered e l)
+        | no l ↦
+            let past : length (f .stateSets) ≤ e = omega arith in
+            subst (λ (x : StateSet). InOrder bytes index (statesOf (viewOf (statePlace index e) x)))
+            (sym (List·getD-eq-default (f .stateSets) (basic empty) past)) (none-in-order bytes index (read-short bytes (k .read)))
+      ]
+
   -- a basic entry's set holds what the entry does, is of its kind and keeps the format's limits
   module _ (e : ℕ) (b : Basic) (q : stateSetAt (decoded bytes) e ≡ basic b) where
-    as-basic : StandsFor bytes (f .task) b (setOf index f e)
-    unfolding setOf basicIn viewOf
+    as-basic : StandsFor bytes index (f .task) b (setOf index f e)
+    unfolding setOf basicIn viewOf statesOf
     as-basic =
-        subst (λ (x : StateSet). StandsFor bytes (f .task) b (basicIn (viewOf (statePlace index e) x))) (sym q)
-        (stands-for bytes (f .task) (statePlace index e) b (subst (StateItems bytes (statePlace index e)) q (known-items e))
+        subst (λ (x : StateSet). StandsFor bytes index (f .task) b (basicIn (viewOf (statePlace index e) x))) (sym q)
+        (stands-for bytes index (f .task) (statePlace index e) b (subst (StateItems bytes (statePlace index e)) q (known-items e))
+        (subst (λ (x : StateSet). InOrder bytes index (statesOf (viewOf (statePlace index e) x))) q (known-order e))
         (subst (FitsStateSet (f .task .facts) (length (f .actionSets)) e) q (order.state-set-fits bytes f (read-file bytes (k .read)) e)))
 
     pub known-holds : (s : ℕ) → setHolds bytes (endsOf (decoded bytes .task)) (setOf index (decoded bytes) e) s ≡ inSet (decoded bytes) e s
@@ -164,5 +178,5 @@ module _ (bytes : List ℕ) (index : List ℕ) (k : Known bytes index) where
     unfolding kindAt stateKind
     known-kind = as-basic .kind ∙ sym (ap stateKind q)
 
-    pub known-limits : WithinLimits bytes (decoded bytes .task .facts) (setOf index (decoded bytes) e)
+    pub known-limits : WithinLimits bytes index (decoded bytes .task .facts) (setOf index (decoded bytes) e)
     known-limits = as-basic .limits

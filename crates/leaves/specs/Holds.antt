@@ -10,22 +10,17 @@ use Rattle.task.specs.Inner.{atInit, atGoal}
 use Rattle.task.specs.Reach.{member}
 use Rattle.bytes.specs.Numbers.{numberAt}
 use Rattle.bytes.specs.ClauseRule.{clauseRule}
-use Rattle.meaning.specs.Writing.{Ascending}
 use Rattle.meaning.specs.Sets.{allBelow, meets}
 use Rattle.words.specs.Words.{wordsAt}
 use Rattle.certificate.specs.declared.Span.{Span}
 use Rattle.certificate.specs.declared.BasicEntry.{BasicEntry}
 use Rattle.certificate.specs.declared.BasicEntry.the-variants.{Empty, Init, Goal, Explicit, Horn, TwoCnf}
+use Rattle.certificate.specs.Rows.{InOrder}
 
 -- `count` states of 8 bytes from place `at`
 unfoldable pub statesAt : List ℕ → ℕ → ℕ → List ℕ
 statesAt bytes at zero = []
 statesAt bytes at (suc k) = numberAt 8 bytes at ∷ statesAt bytes (at + 8) k
-
--- they stand within the file, and ascend
-pub record InOrder (bytes : List ℕ) (at count : ℕ) : Type 0 where
-  pub inside : at + 8 * count ≤ length bytes
-  pub ascend : Ascending 0 (statesAt bytes at count)
 
 module _ (bytes : List ℕ) (ends : Ends) where
   -- state s meets each clause of a span
@@ -41,14 +36,14 @@ module _ (bytes : List ℕ) (ends : Ends) where
   setHolds (Horn x) s = meetsAll x s
   setHolds (TwoCnf x) s = meetsAll x s
 
--- a set's listed states are in order; its clauses stand within the file
-abbrev pub Orderly : List ℕ → BasicEntry → Type 0
-Orderly bytes Empty = Unit {0}
-Orderly bytes Init = Unit {0}
-Orderly bytes Goal = Unit {0}
-Orderly bytes (Explicit x) = InOrder bytes (x .at) (x .count)
-Orderly bytes (Horn x) = x .at + 16 * x .count ≤ length bytes
-Orderly bytes (TwoCnf x) = x .at + 16 * x .count ≤ length bytes
+-- a set's listed states are in order by the table of entries; its clauses stand within the file
+abbrev pub Orderly : List ℕ → List ℕ → BasicEntry → Type 0
+Orderly bytes index Empty = Unit {0}
+Orderly bytes index Init = Unit {0}
+Orderly bytes index Goal = Unit {0}
+Orderly bytes index (Explicit x) = InOrder bytes index x
+Orderly bytes index (Horn x) = x .at + 16 * x .count ≤ length bytes
+Orderly bytes index (TwoCnf x) = x .at + 16 * x .count ≤ length bytes
 
 -- clauses stand within the file, and keep the rule of two-literal or of Horn clauses
 pub record Ruled (bytes : List ℕ) (two : Bool) (x : Span) : Type 0 where

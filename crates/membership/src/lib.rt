@@ -1,6 +1,7 @@
 // Whether a set of kinds 0 to 5 holds a state: listed states by search, clauses one by one.
 use bytes::u64_in;
 use certificate::BasicEntry;
+use certificate::Index;
 use certificate::Span;
 use meaning::Clause;
 use task::Ends;
@@ -15,7 +16,15 @@ ghost use lib.Dec.{ltb};
 ghost use Rattle.task.specs.Reach.{member};
 ghost use Rattle.meaning.specs.Sets.{allBelow, meets};
 ghost use Rattle.words.specs.Words.{wordsAt};
-ghost use Rattle.leaves.specs.Holds.{statesAt, InOrder, setHolds, Orderly};
+ghost use Rattle.certificate.specs.Rows.{byRows, stateIn, InOrder};
+ghost use Rattle.leaves.specs.Holds.{statesAt, setHolds, Orderly};
+ghost use Rattle.membership.specs.Listed.{Listed};
+
+// Listed states, and whether they are in order by their rows in the table of entries or as they stand.
+pub struct Listing {
+    pub states: Span,
+    pub rows: bool,
+}
 
 // The guess, where it is one of so many, else the one in the middle.
 fn within(guess: usize, all: usize) -> usize
@@ -24,24 +33,49 @@ fn within(guess: usize, all: usize) -> usize
     if guess < all { guess } else { all >> 1 }
 }
 
-// Where a state stands among `count` ascending states from a place, and `count` where it does not. It is looked for from a
-// guess in growing steps, and then by halves: the states after an action often stand as those before it do.
-pub fn find(file: &[u8], at: u32, count: u32, guess: usize, s: u64) -> usize
-    requires { ⌜ InOrder (now file) at count ⌝ }
-    ensures { λ k. ⌜ ltb k count ≡ member s (statesAt (now (file .entry)) at count) ⌝ }
+// Listed states as they are looked through: whether they are in order by their rows, or as they stand.
+pub fn listing_of(index: &Index, states: Span) -> Listing
+    requires { ⌜ states .at + 8 * states .count ≤ 65536 ⌝ }
+    ensures { λ r. ⌜ r ≡ record { states = states; rows = byRows (now (index .entry)) states } ⌝ }
 {
-    let first = at as usize;
-    let all = count as usize;
+    let mut rows = false;
+    if 1 < states.count {
+        let first = 768 + states.at as usize / 8;
+        rows = index[first] != index[first + 1];
+    }
+    Listing { states, rows }
+}
+
+// The k-th of listed states by size.
+pub fn state_in(file: &[u8], index: &Index, x: Listing, k: usize) -> u64
+    requires { ⌜ Listed (now file) (now index) x × (k < x .states .count) ⌝ }
+    ensures { λ r. ⌜ r ≡ stateIn (now (file .entry)) (now (index .entry)) (x .states) k ⌝ }
+{
+    let at = x.states.at as usize;
+    if x.rows {
+        let row = index[768 + at / 8 + k];
+        return u64_in(file, at + 8 * row as usize);
+    }
+    u64_in(file, at + 8 * k)
+}
+
+// Which of listed states a state is, by size, and their number where it is none of them. It is looked for from a guess in growing steps,
+// and then by halves: the states after an action often stand as those before it do.
+pub fn find(file: &[u8], index: &Index, x: Listing, guess: usize, s: u64) -> usize
+    requires { ⌜ Listed (now file) (now index) x ⌝ }
+    ensures { λ k. ⌜ ltb k (x .states .count) ≡ member s (statesAt (now (file .entry)) (x .states .at) (x .states .count)) ⌝ }
+{
+    let all = x.states.count as usize;
     let mut lo: usize = 0;
     let mut hi = all;
     let mut mid = within(guess, all);
     let mut step: usize = 1;
     while lo < hi {
-        let x = u64_in(file, first + 8 * mid);
-        if x == s {
+        let t = state_in(file, index, x, mid);
+        if t == s {
             return mid;
         }
-        if x < s {
+        if t < s {
             lo = mid + 1;
             mid = mid + step;
             if mid < hi {
@@ -63,11 +97,11 @@ pub fn find(file: &[u8], at: u32, count: u32, guess: usize, s: u64) -> usize
 }
 
 // Whether a state is among the listed ones.
-fn among(file: &[u8], x: Span, s: u64) -> bool
-    requires { ⌜ InOrder (now file) (x .at) (x .count) ⌝ }
+fn among(file: &[u8], index: &Index, x: Span, s: u64) -> bool
+    requires { ⌜ InOrder (now file) (now index) x ⌝ }
     ensures { λ b. ⌜ b ≡ member s (statesAt (now (file .entry)) (x .at) (x .count)) ⌝ }
 {
-    find(file, x.at, x.count as u32, 0, s) < x.count as usize
+    find(file, index, listing_of(index, x), 0, s) < x.count as usize
 }
 
 // Whether a state meets a clause.
@@ -95,15 +129,15 @@ fn meets_all(file: &[u8], x: Span, s: u64) -> bool
 }
 
 // Whether a set of kinds 0 to 5 holds a state.
-pub fn set_holds(file: &[u8], ends: Ends, set: BasicEntry, s: u64) -> bool
-    requires { ⌜ Orderly (now file) set ⌝ }
+pub fn set_holds(file: &[u8], index: &Index, ends: Ends, set: BasicEntry, s: u64) -> bool
+    requires { ⌜ Orderly (now file) (now index) set ⌝ }
     ensures { λ b. ⌜ b ≡ setHolds (now (file .entry)) ends set s ⌝ }
 {
     match set {
         BasicEntry::Empty => false,
         BasicEntry::Init => is_init(ends, s),
         BasicEntry::Goal => is_goal(ends, s),
-        BasicEntry::Explicit(x) => among(file, x, s),
+        BasicEntry::Explicit(x) => among(file, index, x, s),
         BasicEntry::Horn(x) => meets_all(file, x, s),
         BasicEntry::TwoCnf(x) => meets_all(file, x, s),
     }

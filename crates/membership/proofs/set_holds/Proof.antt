@@ -7,13 +7,13 @@ use Rattle.membership.proofs.set_holds.Statement.{statement}
 use Rattle.membership.proofs.set_holds.Tie as tie
 
 among-requires : tie.Need-among-requires
-among-requires c κs = subst (Orderly _) (c .before .set .given .1) (c .before .before .before .before .pre)
+among-requires c κs = subst (Orderly _ _) (c .before .set .given .1) (c .before .before .before .before .pre)
 
 horn-requires : tie.Need-meets-all-requires
-horn-requires c κs = subst (Orderly _) (c .before .set2 .given .1) (c .before .before .before .before .pre)
+horn-requires c κs = subst (Orderly _ _) (c .before .set2 .given .1) (c .before .before .before .before .pre)
 
 two-requires : tie.Need-meets-all-requires-2
-two-requires c κs = subst (Orderly _) (c .before .set3 .given .1) (c .before .before .before .before .pre)
+two-requires c κs = subst (Orderly _ _) (c .before .set3 .given .1) (c .before .before .before .before .pre)
 
 pub set-holds-spec : {M : Type 1} → statement M
 unfolding setHolds meetsAll
