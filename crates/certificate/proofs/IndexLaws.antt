@@ -68,7 +68,7 @@ zeros (suc n) (suc i) = zeros n i
 
 -- action sets from 0 on, then state sets from 256 on
 module _ (bytes : List ℕ) (at : Places) (first second third : List ℕ) where
-  pub indexed-file : length first ≡ 8960 → ((j : ℕ) → getD first j 0 ≡ 0) → at .«action_sets» ≤ 256 → at .«state_sets» ≤ 512
+  pub indexed-file : length first ≡ 8961 → ((j : ℕ) → getD first j 0 ≡ 0) → at .«action_sets» ≤ 256 → at .«state_sets» ≤ 512
       → Indexed bytes (at .«action_sets_at») (at .«action_sets») 0 first second
       → Indexed bytes (at .«state_sets_at») (at .«state_sets») 256 second third → Table bytes at third
   unfolding actionPlace statePlace

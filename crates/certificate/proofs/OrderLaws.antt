@@ -1,19 +1,22 @@
 -- The rows of a file's explicit sets, put into the table one set after the other.
 -- Assumes nothing.
 use mathlib.Core.Path.{_≡_, refl, ap, sym, subst, _∙_}
-use mathlib.Core.Logic.{_⊎_, inl, inr}
+use mathlib.Core.Logic.{_↔_, _⊎_, inl, inr}
 use Prim.Native.Nat.{ℕ, zero, suc, _+_, _-_, _*_, _/_, _≤_, _<_}
-use native.Mathlib.Nat.{le-refl, le-trans}
+use native.Mathlib.Nat.{le-trans}
 use native.Mathlib.Omega.{arith}
 use native.Mathlib.Decide.{decLt}
+use mathlib.Core.Bool.{false}
 use mathlib.Core.List.{List}
-use lib.ListN.{length, getD}
+use lib.ListN.{length, getD, set, length-set}
+use lib.Seq.{getD-set-same, getD-set-other}
+use lib.Dec.{T}
 use Rattle.bytes.specs.Numbers.{numberAt}
 use Rattle.meaning.specs.Result.{found}
 use Rattle.meaning.specs.File.{File}
 use Rattle.meaning.specs.Layout.{readFile}
 use Rattle.meaning.proofs.Order.{all-anywhere}
-use Rattle.sorting.specs.Rows.{Kept}
+use Rattle.sorting.specs.Rows.{stateAt, Ascends, row, Room, Ordered, Kept}
 use Rattle.certificate.specs.declared.Places.{Places}
 use Rattle.certificate.specs.declared.Span.{Span}
 use Rattle.certificate.specs.declared.BasicEntry.the-variants.{Empty}
@@ -22,11 +25,11 @@ use Rattle.certificate.specs.declared.StateEntry.the-variants.{Basic}
 use Rattle.certificate.specs.declared.views.Head.{Head}
 use Rattle.certificate.specs.Views.{headAt, spanOf, stateTable, stateOf, stateEntryAt, afterEntry, entryPlace, placesOf}
 use Rattle.certificate.specs.Index.{Indexed, statePlace, actionPlace, Table}
-use Rattle.certificate.specs.Rows.{listedBy, statesOf, firstRow, InOrder, Unordered, statesAt, Tabled, WithRows}
+use Rattle.certificate.specs.Rows.{listedBy, statesOf, firstRow, InOrder, statesAt, Tabled, AllAscend, WithRows}
 use Rattle.certificate.specs.Known.{decoded, Placed, Known}
 use Rattle.certificate.proofs.IndexLaws.{in-part, past-part, indexed-file}
 use Rattle.certificate.proofs.ViewLaws.{PlacesFit, places-fit, indexed-state-set, indexed-place}
-use Rattle.certificate.proofs.RowLaws.{in-order-kept}
+use Rattle.certificate.proofs.RowLaws.{no-rows, some-rows, as-they-stand, by-their-rows}
 
 -- ---- the states of an entry
 
@@ -86,15 +89,38 @@ after-le bytes p = omega arith
 
 -- ---- the rows of one set after the other
 
--- those of the first e state sets are there, and none behind them
-pub record Ordering (bytes : List ℕ) (count : ℕ) (was is : List ℕ) (e : ℕ) : Type 0 where
-  pub rows : WithRows bytes e was is
-  pub nothing : e < count → (j : ℕ) → firstRow (getD was (256 + e) 0 + 3) ≤ j → getD is j 0 ≡ 0
+-- rows stay in order where others behind them change
+ordered-kept : {bytes : List ℕ} {at count first from n : ℕ} {was is : List ℕ} → Ordered bytes at count was first → Kept was is from n
+    → (first + count ≤ from) ⊎ (n ≡ 0) → Ordered bytes at count is first
+ordered-kept {bytes} {at} {count} {first} {from} {n} {was} {is} o k d = record {
+  room = record { inside = o .room .inside; fits = omega (arith, o .room .fits, k .size); small = o .room .small };
+  below = λ i l. omega (arith, o .below i l, same i l);
+  every = λ j l. (let w = o .every j l in (w .0, w .1, ap (stateAt bytes at) (same (w .0) (w .1)) ∙ w .2));
+  ascend = λ i j l m. omega (arith, o .ascend i j l m, ap (stateAt bytes at) (same i (omega arith)), ap (stateAt bytes at) (same j m));
+}
+  where
+    same : (i : ℕ) → i < count → row is first i ≡ row was first i
+    same i l =
+        elim d [
+          | inl b ↦ k .before (first + i) (omega arith)
+          | inr z ↦ elim (decLt (first + i) from) [
+            | yes m ↦ k .before (first + i) m
+            | no m ↦ k .after (first + i) (omega arith)
+          ]
+        ]
 
 module _ {bytes was : List ℕ} {count : ℕ} (t : Tabled bytes was count) where
-  -- rows of an earlier set end before the place of a later one
-  earlier : (d e : ℕ) → d < e → e < count
-      → firstRow (statesAt bytes was d .at) + statesAt bytes was d .count ≤ firstRow (getD was (256 + e) 0 + 3)
+  abbrev states-of : ℕ → Span
+  states-of e = statesAt bytes was e
+
+  -- the states of a set stand within the file, and its rows end before those of later sets
+  pub set-inside : (e : ℕ) → e < count → states-of e .at + 8 * states-of e .count ≤ length bytes
+  set-inside e l = states-inside bytes (getD was (256 + e) 0) (t .inside e l)
+
+  pub set-there : (e : ℕ) → e < count → (256 + e < length was) × (getD was (256 + e) 0 + 7 ≤ length bytes)
+  set-there e l = (omega (arith, t .few, t .size), t .head e l)
+
+  earlier : (d e : ℕ) → d < e → e < count → firstRow (states-of d .at) + states-of d .count ≤ firstRow (getD was (256 + e) 0 + 3)
   earlier d zero l m = absurd (omega arith)
   earlier d (suc e) l m =
       let n = t .next e m in
@@ -105,70 +131,66 @@ module _ {bytes was : List ℕ} {count : ℕ} (t : Tabled bytes was count) where
             omega arith
         | no k ↦
             let q : d ≡ e = omega arith in
-            let r = subst (λ (c : ℕ). firstRow (statesAt bytes was c .at) + statesAt bytes was c .count
-            ≤ firstRow (afterEntry bytes (getD was (256 + e) 0) + 3)) (sym q) (rows-end bytes (getD was (256 + e) 0)) in
+            let r = subst (λ (c : ℕ). firstRow (states-of c .at) + states-of c .count ≤ firstRow (afterEntry bytes (getD was (256 + e) 0) + 3))
+            (sym q) (rows-end bytes (getD was (256 + e) 0)) in
             omega arith
       ]
 
-  pub ordering-none : Ordering bytes count was was 0
-  ordering-none = record {
-    rows = record { size = refl; places = λ j l. refl; ordered = λ e l. absurd (omega arith) };
-    nothing = λ l j m. t .nothing j (omega arith);
-  }
+  pub rows-none : WithRows bytes 0 was was
+  rows-none = record { size = refl; places = λ j l. refl; mark = refl; ordered = λ e l. absurd (omega arith) }
 
-  module _ {is : List ℕ} {e : ℕ} (o : Ordering bytes count was is e) (l : e < count) where
-    -- the place of set e is still in the table
+  module _ {is : List ℕ} {e : ℕ} (w : WithRows bytes e was is) (l : e < count) where
+    -- the place of set e is still in the table, and there is room for its rows
     pub still : getD is (256 + e) 0 ≡ getD was (256 + e) 0
-    still = o .rows .places (256 + e) (omega (arith, t .few))
+    still = w .places (256 + e) (omega (arith, t .few))
 
-    pub unordered : Unordered bytes is (statesAt bytes was e)
-    unordered = record {
-      inside = states-inside bytes (getD was (256 + e) 0) (t .inside e l);
-      short = t .short;
-      room = omega (arith, o .rows .size, t .size);
-      nothing = λ k m. o .nothing l _ (le-trans (rows-start bytes (getD was (256 + e) 0) (omega arith)) (omega arith));
-    }
+    pub set-room : Room bytes (states-of e .at) (states-of e .count) is (firstRow (states-of e .at))
+    set-room =
+        let i = set-inside e l in
+        let s = t .short in
+        record { inside = i; fits = omega (arith, w .size, t .size); small = omega arith }
 
-    pub ordering-more : {new : List ℕ} → InOrder bytes new (statesAt bytes was e)
-        → Kept is new (firstRow (statesAt bytes was e .at)) (statesAt bytes was e .count)
-        → Ordering bytes count was new (e + 1)
-    ordering-more {new} i k = record {
-      rows = record {
-        size = k .size ∙ o .rows .size;
-        places = λ j m. k .before j (omega arith) ∙ o .rows .places j m;
-        ordered = λ d m. elim (decLt d e) [ yes n ↦ old d n | no n ↦ (let q : e ≡ d = omega arith in
-            subst (λ (c : ℕ). InOrder bytes new (statesAt bytes was c)) q i) ];
-      };
-      nothing = λ m j n.
-          let q : e + 1 ≡ suc e = omega arith in
-          let r = subst (λ (c : ℕ). firstRow (getD was (256 + c) 0 + 3) ≤ j) q n in
-          let a = t .next e (omega arith) in
-          let b = rows-end bytes (getD was (256 + e) 0) in
-          let c = after-le bytes (getD was (256 + e) 0) in
-          k .after j (omega arith) ∙ o .nothing l j (omega arith);
-    }
+    pub rows-more : {new : List ℕ} → Ordered bytes (states-of e .at) (states-of e .count) new (firstRow (states-of e .at))
+        → Kept is new (firstRow (states-of e .at)) (states-of e .count) → WithRows bytes (e + 1) was new
+    rows-more {new} o k =
+        let i = set-inside e l in
+        let s = t .short in
+        record {
+          size = k .size ∙ w .size;
+          places = λ j m. k .before j (omega arith) ∙ w .places j m;
+          mark = k .after 8960 (omega arith) ∙ w .mark;
+          ordered = λ d m. elim (decLt d e) [
+            | yes n ↦ ordered-kept (w .ordered d n) k (behind d n)
+            | no n ↦
+                let q : e ≡ d = omega arith in
+                subst (λ (c : ℕ). Ordered bytes (states-of c .at) (states-of c .count) new (firstRow (states-of c .at))) q o
+          ];
+        }
       where
-        old : (d : ℕ) → d < e → InOrder bytes new (statesAt bytes was d)
-        old d n =
-            elim (decLt 0 (statesAt bytes was e .count)) [
-              | yes c ↦ in-order-kept (o .rows .ordered d n) k (le-trans (earlier d e n l) (rows-start bytes (getD was (256 + e) 0) c))
-              | no c ↦ in-order-kept (o .rows .ordered d n) (whole c) (le-refl _)
+        behind : (d : ℕ) → d < e
+            → (firstRow (states-of d .at) + states-of d .count ≤ firstRow (states-of e .at)) ⊎ (states-of e .count ≡ 0)
+        behind d n =
+            elim (decLt 0 (states-of e .count)) [
+              | yes c ↦ inl (le-trans (earlier d e n l) (rows-start bytes (getD was (256 + e) 0) c))
+              | no c ↦ inr (omega arith)
             ]
-          where
-            whole : (0 < statesAt bytes was e .count → ⊥)
-                → Kept is new (firstRow (statesAt bytes was d .at) + statesAt bytes was d .count) 0
-            whole c = record {
-              size = k .size;
-              before = λ j m. anywhere j;
-              after = λ j m. anywhere j;
-            }
-              where
-                anywhere : (j : ℕ) → getD new j 0 ≡ getD is j 0
-                anywhere j =
-                    elim (decLt j (firstRow (statesAt bytes was e .at))) [
-                      | yes m ↦ k .before j m
-                      | no m ↦ k .after j (omega arith)
-                    ]
+
+-- ---- whether all sets ascend as they stand
+
+module _ (bytes index : List ℕ) where
+  pub up-more : {e : ℕ} {x : Span} → AllAscend bytes index e → x ≡ statesAt bytes index e → Ascends bytes (x .at) (x .count)
+      → AllAscend bytes index (e + 1)
+  up-more {e} a q up d l =
+      elim (decLt d e) [
+        | yes m ↦ a d m
+        | no m ↦
+            let r : e ≡ d = omega arith in
+            subst (λ (y : Span). Ascends bytes (y .at) (y .count)) (q ∙ ap (statesAt bytes index) r) up
+      ]
+
+  pub up-fails : {e count : ℕ} {x : Span} → e < count → x ≡ statesAt bytes index e → (Ascends bytes (x .at) (x .count) → ⊥)
+      → T false ↔ AllAscend bytes index count
+  up-fails {e} l q n = ((λ f. absurd f), λ a. n (subst (λ (y : Span). Ascends bytes (y .at) (y .count)) (sym q) (a e l)))
 
 -- ---- the table of a file
 
@@ -180,9 +202,9 @@ module _ (bytes : List ℕ) (f : File) (r : readFile bytes ≡ found f) (index :
   few-sets : placesOf bytes f .«state_sets» ≤ 512
   few-sets = places-fit bytes f r .few-state-sets
 
-  pub tabled : length index ≡ 8960 → ((j : ℕ) → 768 ≤ j → getD index j 0 ≡ 0) → Tabled bytes index (placesOf bytes f .«state_sets»)
+  pub tabled : length index ≡ 8961 → Tabled bytes index (placesOf bytes f .«state_sets»)
   unfolding placesOf entryPlace
-  tabled size nothing = record {
+  tabled size = record {
     few = few-sets;
     short = places-fit bytes f r .short;
     size = size;
@@ -192,19 +214,18 @@ module _ (bytes : List ℕ) (f : File) (r : readFile bytes ≡ found f) (index :
     next = λ e l.
         sym (place (suc e) l) ∙ indexed-place bytes f r index t (suc e) l
         ∙ ap (afterEntry bytes) (sym (indexed-place bytes f r index t e (omega arith)) ∙ place e (omega arith));
-    nothing = nothing;
   }
     where
       place : (e : ℕ) → e < placesOf bytes f .«state_sets» → statePlace index e ≡ getD index (256 + e) 0
       place e l = place-at index e (omega (arith, few-sets))
 
-  -- rows leave the places as they were
-  module _ {new : List ℕ} (w : WithRows bytes (placesOf bytes f .«state_sets») index new) where
+  -- a table with the same places
+  module _ (new : List ℕ) (same : (j : ℕ) → j < 768 → getD new j 0 ≡ getD index j 0) where
     same-state : (e : ℕ) → statePlace new e ≡ statePlace index e
     unfolding statePlace
     same-state e =
         elim (decLt e 512) [
-          | yes l ↦ in-part 512 e _ l ∙ w .places (256 + e) (omega arith) ∙ sym (in-part 512 e _ l)
+          | yes l ↦ in-part 512 e _ l ∙ same (256 + e) (omega arith) ∙ sym (in-part 512 e _ l)
           | no l ↦ past-part 512 e _ (omega arith) ∙ sym (past-part 512 e _ (omega arith))
         ]
 
@@ -212,7 +233,7 @@ module _ (bytes : List ℕ) (f : File) (r : readFile bytes ≡ found f) (index :
     unfolding actionPlace
     same-action e =
         elim (decLt e 256) [
-          | yes l ↦ in-part 256 e _ l ∙ w .places e (omega arith) ∙ sym (in-part 256 e _ l)
+          | yes l ↦ in-part 256 e _ l ∙ same e (omega arith) ∙ sym (in-part 256 e _ l)
           | no l ↦ past-part 256 e _ (omega arith) ∙ sym (past-part 256 e _ (omega arith))
         ]
 
@@ -224,37 +245,74 @@ module _ (bytes : List ℕ) (f : File) (r : readFile bytes ≡ found f) (index :
       noStateSet = λ e l. same-state e ∙ t .noStateSet e l;
     }
 
-    pub sets-ordered : (e : ℕ) → e < placesOf bytes f .«state_sets» → InOrder bytes new (statesOf (stateEntryAt bytes (statePlace new e)))
-    sets-ordered e l =
-        subst (λ (p : ℕ). InOrder bytes new (statesOf (stateEntryAt bytes p)))
-        (sym (same-state e ∙ place-at index e (omega (arith, few-sets)))) (w .ordered e l)
+    -- a set's states, by the one table and by the other
+    pub same-states : (e : ℕ) → e < placesOf bytes f .«state_sets»
+        → statesAt bytes index e ≡ statesOf (stateEntryAt bytes (statePlace new e))
+    same-states e l =
+        ap (λ (p : ℕ). statesOf (stateEntryAt bytes p)) (sym (same-state e ∙ place-at index e (omega (arith, few-sets))))
 
 -- the places of a checked file, put into a table of zeros, and then its rows
-module _ {bytes : List ℕ} {at : Places} (k : Placed bytes at) {first second third : List ℕ} (size : length first ≡ 8960)
+module _ {bytes : List ℕ} {at : Places} (k : Placed bytes at) {first second third : List ℕ} (size : length first ≡ 8961)
     (zeros : (j : ℕ) → getD first j 0 ≡ 0) (a : Indexed bytes (at .«action_sets_at») (at .«action_sets») 0 first second)
     (s : Indexed bytes (at .«state_sets_at») (at .«state_sets») 256 second third) where
+  abbrev f : File
+  f = decoded bytes
+
   fit : PlacesFit bytes (placesOf bytes (decoded bytes))
   fit = places-fit bytes (decoded bytes) (k .read)
 
+  sets : at .«state_sets» ≡ placesOf bytes (decoded bytes) .«state_sets»
+  sets = ap (λ (q : Places). q .«state_sets») (k .places)
+
   filled : Table bytes (placesOf bytes (decoded bytes)) third
   filled =
-      let f = subst (PlacesFit bytes) (sym (k .places)) fit in
+      let n = subst (PlacesFit bytes) (sym (k .places)) fit in
       subst (λ (q : Places). Table bytes q third) (k .places)
-      (indexed-file bytes at first second third size zeros (f .few-action-sets) (f .few-state-sets) a s)
+      (indexed-file bytes at first second third size zeros (n .few-action-sets) (n .few-state-sets) a s)
 
   pub to-order : Tabled bytes third (at .«state_sets»)
   to-order =
-      let f = subst (PlacesFit bytes) (sym (k .places)) fit in
-      subst (λ (q : Places). Tabled bytes third (q .«state_sets»)) (sym (k .places))
-      (tabled bytes (decoded bytes) (k .read) third filled (s .size ∙ a .size ∙ size) (λ j l.
-      s .above j (omega (arith, f .few-state-sets)) ∙ a .above j (omega (arith, f .few-action-sets)) ∙ zeros j))
+      subst (Tabled bytes third) (sym sets) (tabled bytes f (k .read) third filled (s .size ∙ a .size ∙ size))
 
-  pub in-order : {new : List ℕ} → WithRows bytes (at .«state_sets») third new → Known bytes new
+  -- the sets ascend as they stand
+  pub known-ascending : AllAscend bytes third (at .«state_sets») → Known bytes third
   unfolding placesOf
-  in-order {new} w =
-      let v = subst (λ (q : Places). WithRows bytes (q .«state_sets») third new) (k .places) w in
+  known-ascending up =
+      let n = subst (PlacesFit bytes) (sym (k .places)) fit in
+      let mark = s .above 8960 (omega (arith, n .few-state-sets)) ∙ a .above 8960 (omega (arith, n .few-action-sets)) ∙ zeros 8960 in
       record {
         read = k .read;
-        table = same-table bytes (decoded bytes) (k .read) third filled v;
-        ordered = sets-ordered bytes (decoded bytes) (k .read) third filled v;
+        table = filled;
+        ordered = λ e l.
+            let m : e < at .«state_sets» = omega (arith, sets) in
+            subst (InOrder bytes third) (same-states bytes f (k .read) third filled third (λ _ _. refl) e l)
+            (as-they-stand (fit .short) (set-inside to-order e m) (no-rows third mark) (up e m));
       }
+
+  -- their rows are put into the table, with its mark
+  module _ {marked : List ℕ} (mark : marked ≡ set third 8960 1) where
+    still-there : (j : ℕ) → j < 768 → getD marked j 0 ≡ getD third j 0
+    still-there j l = ap (λ (ys : List ℕ). getD ys j 0) mark ∙ getD-set-other third 8960 j 1 0 (λ e. omega arith)
+
+    pub marked-size : length marked ≡ length first
+    marked-size = ap length mark ∙ length-set third 8960 1 ∙ s .size ∙ a .size
+
+    pub to-order-marked : Tabled bytes marked (at .«state_sets»)
+    to-order-marked =
+        subst (Tabled bytes marked) (sym sets)
+        (tabled bytes f (k .read) marked (same-table bytes f (k .read) third filled marked still-there)
+        (marked-size ∙ size))
+
+    pub known-rows : {new : List ℕ} → WithRows bytes (at .«state_sets») marked new → Known bytes new
+    unfolding placesOf
+    known-rows {new} w =
+        let room : 8960 < length third = omega (arith, s .size, a .size, size) in
+        let one = w .mark ∙ ap (λ (ys : List ℕ). getD ys 8960 0) mark ∙ getD-set-same third 8960 1 0 room in
+        let table = same-table bytes f (k .read) third filled marked still-there in
+        record {
+          read = k .read;
+          table = same-table bytes f (k .read) marked table new (w .places);
+          ordered = λ e l.
+              subst (InOrder bytes new) (same-states bytes f (k .read) marked table new (w .places) e l)
+              (by-their-rows (fit .short) (some-rows new one) (w .ordered e (omega (arith, sets))));
+        }

@@ -1,130 +1,70 @@
--- The rows of listed states: which states have rows, that they are in order by them, and that rows put behind them leave them so.
+-- The rows of listed states: where there are some, and that states are in order by them or as they stand.
 -- Assumes nothing.
-use mathlib.Core.Path.{_≡_, refl, ap, ap₂, sym, subst, _∙_}
+use mathlib.Core.Path.{_≡_, refl, ap, sym, _∙_}
 use Prim.Native.Nat.{ℕ, _+_, _*_, _/_, _≤_, _<_}
 use native.Mathlib.Omega.{arith}
 use native.Mathlib.Decide.{decLt}
-use mathlib.Core.Bool.{Bool, true, false, not, _&&_}
+use mathlib.Core.Bool.{true, false, not}
 use mathlib.Core.List.{List}
 use lib.ListN.{length, getD}
-use lib.Dec.{ltb, eqb, ltb→lt, lt→ltb}
+use lib.Dec.{eqb}
 use borrow.Author.Tests.{eq-eqb, ne-eqb}
-use Rattle.task.proofs.Tests.{is-true, is-false}
 use Rattle.bytes.specs.Numbers.{numberAt}
-use Rattle.sorting.specs.Rows.{stateAt, Ascends, Sorted, Kept}
+use Rattle.sorting.specs.Rows.{stateAt, Ascends, Ordered}
 use Rattle.certificate.specs.declared.Span.{Span}
-use Rattle.certificate.specs.Rows.{firstRow, byRows, rowOf, stateIn, InOrder, Unordered}
+use Rattle.certificate.specs.Rows.{firstRow, byRows, rowOf, stateIn, InOrder}
 
--- ---- whether states have rows
+-- ---- whether there are rows
 
-module _ (index : List ℕ) (x : Span) where
-  -- one state has none
-  pub few-none : x .count ≤ 1 → byRows index x ≡ false
+module _ (index : List ℕ) where
+  pub no-rows : getD index 8960 0 ≡ 0 → byRows index ≡ false
   unfolding byRows
-  few-none l = rw (is-false (ltb 1 (x .count)) (λ t. let m = ltb→lt 1 (x .count) t in omega arith)) refl
+  no-rows e = ap not (eq-eqb _ _ e)
 
-  -- two that are equal are none, and else there are rows
-  equal-none : getD index (firstRow (x .at)) 0 ≡ getD index (firstRow (x .at) + 1) 0 → byRows index x ≡ false
+  pub some-rows : getD index 8960 0 ≡ 1 → byRows index ≡ true
   unfolding byRows
-  equal-none e = rw (eq-eqb _ _ e) (go (ltb 1 (x .count)))
-    where
-      go : (b : Bool) → (b && not true) ≡ false
-      go true = refl
-      go false = refl
+  some-rows e = ap not (ne-eqb (getD index 8960 0) 0 (λ z. omega arith))
 
-  -- of two or more the first two rows tell
-  pub many-rows : 1 < x .count → not (eqb (getD index (firstRow (x .at)) 0) (getD index (firstRow (x .at) + 1) 0)) ≡ byRows index x
-  unfolding byRows
-  many-rows l = rw (is-true (ltb 1 (x .count)) (lt→ltb 1 (x .count) l)) refl
+  module _ (x : Span) (k : ℕ) where
+    pub row-none : byRows index ≡ false → rowOf index x k ≡ k
+    unfolding rowOf
+    row-none e = rw (e, rowOf) refl
 
-  two-rows : 1 < x .count → (getD index (firstRow (x .at)) 0 ≡ getD index (firstRow (x .at) + 1) 0 → ⊥) → byRows index x ≡ true
-  two-rows l n = sym (many-rows l) ∙ ap not (ne-eqb _ _ n)
-
-  -- the numbers, as they stand and by rows
-  pub row-none : byRows index x ≡ false → (k : ℕ) → rowOf index x k ≡ k
-  unfolding rowOf
-  row-none e k = rw (e, rowOf) refl
-
-  pub row-some : byRows index x ≡ true → (k : ℕ) → rowOf index x k ≡ getD index (firstRow (x .at) + k) 0
-  unfolding rowOf
-  row-some e k = rw (e, rowOf) refl
-
--- rows that are the same give the same numbers
-module _ (was is : List ℕ) (x : Span) (same : (k : ℕ) → k < x .count → getD is (firstRow (x .at) + k) 0 ≡ getD was (firstRow (x .at) + k) 0) where
-  same-kind : byRows is x ≡ byRows was x
-  unfolding byRows
-  same-kind =
-      elim (decLt 1 (x .count)) [
-        | yes l ↦
-            let z : firstRow (x .at) ≡ firstRow (x .at) + 0 = omega arith in
-            let e : getD is (firstRow (x .at)) 0 ≡ getD was (firstRow (x .at)) 0 =
-            subst (λ (j : ℕ). getD is j 0 ≡ getD was j 0) (sym z) (same 0 (omega arith)) in
-            ap₂ (λ (a b : ℕ). ltb 1 (x .count) && not (eqb a b)) e (same 1 l)
-        | no l ↦ few-none is x (omega arith) ∙ sym (few-none was x (omega arith))
-      ]
-
-  same-row : (k : ℕ) → k < x .count → rowOf is x k ≡ rowOf was x k
-  unfolding rowOf
-  same-row k l = ap₂ (λ (b : Bool) (r : ℕ). elim b [ true ↦ r | false ↦ k ]) same-kind (same k l)
+    pub row-some : byRows index ≡ true → rowOf index x k ≡ getD index (firstRow (x .at) + k) 0
+    unfolding rowOf
+    row-some e = rw (e, rowOf) refl
 
 -- ---- states in order
 
-module _ {bytes index : List ℕ} {x : Span} where
-  -- states that ascend as they stand, where there are no rows
-  pub as-they-stand : Unordered bytes index x → Ascends bytes (x .at) (x .count) → InOrder bytes index x
-  as-they-stand u a = record {
-    inside = u .inside;
-    short = u .short;
-    below = λ k l. omega (arith, row k);
-    every = λ j l. (j, l, row j);
-    ascend = λ i j l m. omega (arith, state i, state j, a i j l m);
-  }
-    where
-      none : byRows index x ≡ false
-      none =
-          elim (decLt 1 (x .count)) [
-            | yes l ↦
-                let z : firstRow (x .at) + 0 ≡ firstRow (x .at) = omega arith in
-                let e = subst (λ (j : ℕ). getD index j 0 ≡ 0) z (u .nothing 0 (omega arith)) in
-                equal-none index x (e ∙ sym (u .nothing 1 l))
-            | no l ↦ few-none index x (omega arith)
-          ]
-
-      row : (k : ℕ) → rowOf index x k ≡ k
-      row = row-none index x none
-
-      state : (k : ℕ) → stateIn bytes index x k ≡ stateAt bytes (x .at) k
-      state k = ap (λ (r : ℕ). numberAt 8 bytes (x .at + 8 * r)) (row k)
-
-  -- states that do not, by their rows
-  pub by-their-rows : length bytes ≤ 65536 → Sorted bytes (x .at) (x .count) index (firstRow (x .at))
-      → (Ascends bytes (x .at) (x .count) → ⊥) → InOrder bytes index x
-  by-their-rows short s n = record {
-    inside = s .room .inside;
+module _ {bytes index : List ℕ} {x : Span} (short : length bytes ≤ 65536) where
+  -- as they stand
+  pub as-they-stand : x .at + 8 * x .count ≤ length bytes → byRows index ≡ false → Ascends bytes (x .at) (x .count) → InOrder bytes index x
+  as-they-stand inside none a = record {
+    inside = inside;
     short = short;
-    below = λ k l. omega (arith, row k, s .below k l);
-    every = λ j l. (let w = s .every j l in (w .0, w .1, row (w .0) ∙ w .2));
-    ascend = λ i j l m. omega (arith, state i, state j, s .ascend i j l m);
+    below = λ k l. omega (arith, row-none index x k none);
+    every = λ j l. (j, l, state j);
+    ascend = λ i j l m. elim (decLt i j) [
+      | yes n ↦ omega (arith, state i, state j, a i j n m)
+      | no n ↦ (let q : i ≡ j = omega arith in omega (arith, ap (stateIn bytes index x) q))
+    ];
   }
     where
-      two : 1 < x .count
-      two =
-          elim (decLt 1 (x .count)) [
-            | yes l ↦ l
-            | no l ↦ absurd (n (λ i j a b. (let e : i ≡ j = omega arith in omega (arith, ap (stateAt bytes (x .at)) e))))
-          ]
+      state : (k : ℕ) → stateIn bytes index x k ≡ stateAt bytes (x .at) k
+      state k = ap (λ (r : ℕ). numberAt 8 bytes (x .at + 8 * r)) (row-none index x k none)
 
-      some : byRows index x ≡ true
-      some = two-rows index x two (λ e.
-          let z : firstRow (x .at) ≡ firstRow (x .at) + 0 = omega arith in
-          let q : 0 ≡ 1 = s .once 0 1 (omega (arith, two)) two (ap (λ (j : ℕ). getD index j 0) (sym z) ∙ e) in
-          omega arith)
-
-      row : (k : ℕ) → rowOf index x k ≡ getD index (firstRow (x .at) + k) 0
-      row = row-some index x some
-
+  -- by their rows
+  pub by-their-rows : byRows index ≡ true → Ordered bytes (x .at) (x .count) index (firstRow (x .at)) → InOrder bytes index x
+  by-their-rows some o = record {
+    inside = o .room .inside;
+    short = short;
+    below = λ k l. omega (arith, row-some index x k some, o .below k l);
+    every = λ j l. (let w = o .every j l in (w .0, w .1, state (w .0) ∙ w .2));
+    ascend = λ i j l m. omega (arith, state i, state j, o .ascend i j l m);
+  }
+    where
       state : (k : ℕ) → stateIn bytes index x k ≡ stateAt bytes (x .at) (getD index (firstRow (x .at) + k) 0)
-      state k = ap (λ (r : ℕ). numberAt 8 bytes (x .at + 8 * r)) (row k)
+      state k = ap (λ (r : ℕ). numberAt 8 bytes (x .at + 8 * r)) (row-some index x k some)
 
 -- where there are no states, they are
 pub none-in-order : (bytes index : List ℕ) → length bytes ≤ 65536 → InOrder bytes index (record { at = 0; count = 0 })
@@ -135,20 +75,3 @@ none-in-order bytes index short = record {
   every = λ j l. absurd (omega arith);
   ascend = λ i j l m. absurd (omega arith);
 }
-
--- rows put behind them leave states in order
-pub in-order-kept : {bytes was is : List ℕ} {x : Span} {from n : ℕ} → InOrder bytes was x → Kept was is from n
-    → firstRow (x .at) + x .count ≤ from → InOrder bytes is x
-in-order-kept {bytes} {was} {is} {x} {from} {n} o k d = record {
-  inside = o .inside;
-  short = o .short;
-  below = λ j l. omega (arith, row j l, o .below j l);
-  every = λ j l. (let w = o .every j l in (w .0, w .1, row (w .0) (w .1) ∙ w .2));
-  ascend = λ i j l m. omega (arith, state i (omega arith), state j m, o .ascend i j l m);
-}
-  where
-    row : (j : ℕ) → j < x .count → rowOf is x j ≡ rowOf was x j
-    row = same-row was is x (λ j l. k .before (firstRow (x .at) + j) (omega arith))
-
-    state : (j : ℕ) → j < x .count → stateIn bytes is x j ≡ stateIn bytes was x j
-    state j l = ap (λ (r : ℕ). numberAt 8 bytes (x .at + 8 * r)) (row j l)

@@ -1,17 +1,19 @@
 // The table of a file's entries: their places, and rows that name the states of explicit sets in ascending order.
 use crate::BasicEntry;
-use crate::Index;
 use crate::Places;
 use crate::Span;
 use crate::StateEntry;
 use crate::views::state_entry;
 use bytes::u16_at;
 use sorting::ascends;
-use sorting::sort_rows;
+use sorting::order_rows;
 ghost use mathlib.Core.Path.{_≡_};
-ghost use Rattle.sorting.specs.Rows.{Kept};
+ghost use mathlib.Core.Logic.{_↔_};
+ghost use Prim.Native.Nat.{ℕ, _+_, _≤_, _<_};
+ghost use lib.ListN.{length, getD};
+ghost use lib.Dec.{T};
 ghost use Rattle.certificate.specs.Index.{capped, Indexed};
-ghost use Rattle.certificate.specs.Rows.{listedBy, statesOf, firstRow, InOrder, Unordered, Tabled, WithRows};
+ghost use Rattle.certificate.specs.Rows.{listedBy, statesOf, statesAt, Tabled, AllAscend, WithRows};
 ghost use Rattle.certificate.specs.Known.{Known, Placed};
 
 // A place as two bytes hold it.
@@ -73,41 +75,52 @@ fn states_of(set: StateEntry) -> Span
     }
 }
 
-// Puts rows for listed states into a table, where these do not ascend as they stand.
-fn order_states(file: &[u8], x: Span, index: &mut [u16])
-    requires { ⌜ Unordered (now file) (now index) x ⌝ }
-    ensures { λ _. ⌜ InOrder (now (file .entry)) (now (index .exit)) x ⌝ }
-    ensures { λ _. ⌜ Kept (now (index .entry)) (now (index .exit)) (firstRow (x .at)) (x .count) ⌝ }
+// The states that the state set lists whose place is at 256 + e in the table.
+fn states_at(file: &[u8], index: &[u16], e: u16) -> Span
+    requires { ⌜ (256 + e < length (now index)) × (getD (now index) (256 + e) 0 + 7 ≤ length (now file)) ⌝ }
+    ensures { λ r. ⌜ r ≡ statesAt (now (file .entry)) (now (index .entry)) e ⌝ }
 {
-    let at = x.at;
-    let count = x.count as u32;
-    if ascends(file, at, count) {
-        return;
-    }
-    sort_rows(file, at, count, index, 768 + at as usize / 8);
+    states_of(state_entry(file, index[256 + e as usize]))
 }
 
-// The same for each of `count` state sets whose places are in the table.
+// Whether the states that each of `count` state sets lists ascend as they stand. Their places are in the table.
+fn all_ascend(file: &[u8], count: u16, index: &[u16]) -> bool
+    requires { ⌜ Tabled (now file) (now index) count ⌝ }
+    ensures { λ b. ⌜ (T b ↔ AllAscend (now (file .entry)) (now (index .entry)) count) ⌝ }
+{
+    let mut e = 0u16;
+    while e < count {
+        let x = states_at(file, index, e);
+        if !ascends(file, x.at, x.count as u32) {
+            return false;
+        }
+        e += 1;
+    }
+    true
+}
+
+// Puts rows for the states that each of `count` state sets lists into the table.
 fn order_sets(file: &[u8], count: u16, index: &mut [u16])
     requires { ⌜ Tabled (now file) (now index) count ⌝ }
     ensures { λ _. ⌜ WithRows (now (file .entry)) count (now (index .entry)) (now (index .exit)) ⌝ }
 {
     let mut e = 0u16;
     while e < count {
-        let place = index[256 + e as usize];
-        order_states(file, states_of(state_entry(file, place)), index);
+        let x = states_at(file, index, e);
+        order_rows(file, x.at, x.count as u32, index, 768 + x.at as usize / 8);
         e += 1;
     }
 }
 
-// The table of a file's entries.
-pub fn index_of(file: &[u8], at: Places) -> Index
-    requires { ⌜ Placed (now file) at ⌝ }
-    ensures { λ r. ⌜ Known (now (file .entry)) r ⌝ }
+// Makes a table of zeros the table of a file's entries.
+pub fn put_entries(file: &[u8], at: Places, index: &mut [u16])
+    requires { ⌜ Placed (now file) at × (length (now index) ≡ 8961) × ((j : ℕ) → getD (now index) j 0 ≡ 0) ⌝ }
+    ensures { λ _. ⌜ Known (now (file .entry)) (now (index .exit)) ⌝ }
 {
-    let mut index = [0u16; 8960];
-    index_entries(file, at.action_sets_at, at.action_sets, &mut index, 0);
-    index_entries(file, at.state_sets_at, at.state_sets, &mut index, 256);
-    order_sets(file, at.state_sets, &mut index);
-    index
+    index_entries(file, at.action_sets_at, at.action_sets, index, 0);
+    index_entries(file, at.state_sets_at, at.state_sets, index, 256);
+    if !all_ascend(file, at.state_sets, index) {
+        index[8960] = 1;
+        order_sets(file, at.state_sets, index);
+    }
 }

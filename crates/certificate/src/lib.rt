@@ -5,9 +5,9 @@ pub mod index;
 pub mod views;
 
 // The table of the entries: the places of the action sets at 0 to 255, those of the state sets at 256 to 767, and 0 where there is no
-// entry; then a row for each 8 bytes of the longest file. An explicit set that does not ascend has its states' numbers, in ascending
-// order of the states, in the rows that its body's place divided by 8 begins; the other rows are 0.
-pub type Index = [u16; 8960];
+// entry. Where some explicit set does not ascend, 1 at the end, and in between a row for each 8 bytes of the longest file: a set's rows,
+// from its body's place divided by 8 on, name its states in ascending order.
+pub type Index = [u16; 8961];
 
 // The task's ends, how many of each part a file has, and where the parts after the actions start.
 pub struct Places {

@@ -22,20 +22,22 @@ use Rattle.certificate.specs.declared.BasicEntry.the-variants.{Empty, Init, Exp
 use Rattle.counterexample.specs.Counter.{seen}
 use Rattle.leaves.specs.declared.Leaf.{Leaf}
 use Rattle.leaves.specs.Leaves.{leafIn, leavesIn}
-use Rattle.leaves.specs.Holds.{statesAt, InOrder, setHolds, Orderly}
+use Rattle.certificate.specs.Rows.{rowOf, stateIn, InOrder}
+use Rattle.certificate.proofs.RowLaws.{none-in-order}
+use Rattle.leaves.specs.Holds.{statesAt, setHolds, Orderly}
 use Rattle.leaves.specs.Lists.{leafHolds, Countered}
 use Rattle.leaves.proofs.ListLaws.{each-at, each-of}
 use Rattle.listed.specs.Listed.{ListsStates, Anchored}
-use Rattle.listed.specs.Search.{Readable, RowsAfter, Closed, holdsOne, showsIn}
-use Rattle.membership.proofs.SearchLaws.{word, listed-at, listed-in}
+use Rattle.listed.specs.Search.{Readable, StatesAfter, Closed, holdsOne, showsIn}
+use Rattle.membership.proofs.SearchLaws.{listed-at, listed-in-order}
 
 -- leaf j: its set may be asked, and what was asked of it
-module _ (bytes leaves : List ℕ) (m : ℕ) (h : Readable bytes leaves m) (j : ℕ) (l : j < m) where
-  orderly-at : Orderly bytes (leafIn leaves j .set)
-  orderly-at = each-at (λ x. Orderly bytes (x .set)) leaves m (h .0) (h .1) j l
+module _ (bytes index leaves : List ℕ) (m : ℕ) (h : Readable bytes index leaves m) (j : ℕ) (l : j < m) where
+  orderly-at : Orderly bytes index (leafIn leaves j .set)
+  orderly-at = each-at (λ x. Orderly bytes index (x .set)) leaves m (h .0) (h .1) j l
 
-  pub orderly-leaf : {x : Leaf} → x ≡ leafIn leaves j → Orderly bytes (x .set)
-  orderly-leaf e = subst (λ (y : Leaf). Orderly bytes (y .set)) (sym e) orderly-at
+  pub orderly-leaf : {x : Leaf} → x ≡ leafIn leaves j → Orderly bytes index (x .set)
+  orderly-leaf e = subst (λ (y : Leaf). Orderly bytes index (y .set)) (sym e) orderly-at
 
 pub tested : (bytes leaves : List ℕ) (ends : Ends) (s t j : ℕ) {x : Leaf} {b : Bool} → x ≡ leafIn leaves j → b ≡ holdsOne bytes ends s t x
     → holdsOne bytes ends s t (leafIn leaves j) ≡ b
@@ -83,12 +85,11 @@ module _ (bytes : List ℕ) (ends : Ends) (a : Action) (left : List ℕ) (m : �
 
 -- the states of the first right leaf are in order, and one that leads to them is not shown
 module _ (bytes : List ℕ) (right : List ℕ) (r : ℕ) (p : Span) where
-  pub rows-ordered : Readable bytes right r → RowsAfter right r p → InOrder bytes (p .at) (p .count)
-  unfolding statesAt
-  rows-ordered h (inl e) = rw e (record { inside = omega arith; ascend = tt })
-  rows-ordered h (inr (l, k, f)) = subst (Orderly bytes) k (orderly-at bytes right r h 0 l)
+  pub states-ordered : (index : List ℕ) → length bytes ≤ 65536 → Readable bytes index right r → StatesAfter right r p → InOrder bytes index p
+  states-ordered index short h (inl e) = rw e (none-in-order bytes index short)
+  states-ordered index short h (inr (l, k, f)) = subst (Orderly bytes index) k (orderly-at bytes index right r h 0 l)
 
-  pub closed-shows : (ends : Ends) (a : Action) (left : List ℕ) (m anchor s : ℕ) → RowsAfter right r p → Closed bytes p a s
+  pub closed-shows : (ends : Ends) (a : Action) (left : List ℕ) (m anchor s : ℕ) → StatesAfter right r p → Closed bytes p a s
       → showsIn bytes ends a left m right r anchor s ≡ false
   unfolding statesAt
   closed-shows ends a left m anchor s w (inl e) = sym (shows-not-applies bytes ends a left m right r anchor s e)
@@ -190,14 +191,16 @@ module _ (bytes : List ℕ) (ends : Ends) (a : Action) (left : List ℕ) (m : �
         subst (λ (s : ℕ). T (In s)) (at-init-is ends (w .state) h) (counters-in w)),
   )
 
-  pub shown-some : {b : Bool} (x : Span) → set ≡ Explicit x → b ≡ someBelow (x .count) (λ i. In (word bytes (x .at) i)) → T b ↔ Found
+  pub shown-some : {b : Bool} (index : List ℕ) (x : Span) → InOrder bytes index x → set ≡ Explicit x
+      → b ≡ someBelow (x .count) (λ i. In (stateIn bytes index x i)) → T b ↔ Found
   unfolding setHolds
-  shown-some x e q = rw q (
+  shown-some index x o e q = rw q (
     (λ t.
         let w = some-at (x .count) _ t in
-        let h = listed-at bytes (x .at) (x .count) (w .0) (w .1) in
-        counters-of (word bytes (x .at) (w .0)) (subst (ListsStates bytes ends) e (is .1) _ h) (rw e h) (w .2)),
+        let h = listed-at bytes (x .at) (x .count) (rowOf index x (w .0)) (o .below (w .0) (w .1)) in
+        counters-of (stateIn bytes index x (w .0)) (subst (ListsStates bytes ends) e (is .1) _ h) (rw e h) (w .2)),
     (λ w.
-        let v = listed-in bytes (w .state) (x .at) (x .count) (subst (λ (y : BasicEntry). Of y (w .state)) e (counters-anchor w)) in
+        let h = subst (λ (y : BasicEntry). Of y (w .state)) e (counters-anchor w) in
+        let v = listed-in-order bytes index x (w .state) o h in
         some-of (x .count) _ (v .0) (v .1) (subst (λ (s : ℕ). T (In s)) (v .2) (counters-in w))),
   )

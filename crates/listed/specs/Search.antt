@@ -20,15 +20,15 @@ use Rattle.leaves.specs.Holds.{statesAt, setHolds, Orderly}
 use Rattle.leaves.specs.Lists.{Each}
 
 -- the array has m leaves, and their sets may be asked
-abbrev pub Readable : List ℕ → List ℕ → ℕ → Type 0
-Readable bytes leaves m = (m ≤ length leaves) × Each (λ x. Orderly bytes (x .set)) (leavesIn leaves m)
+abbrev pub Readable : List ℕ → List ℕ → List ℕ → ℕ → Type 0
+Readable bytes index leaves m = (m ≤ length leaves) × Each (λ x. Orderly bytes index (x .set)) (leavesIn leaves m)
 
 -- the states of the first of r right leaves, where it lists them and is asked about the state after the action; or none
-abbrev pub RowsAfter : List ℕ → ℕ → Span → Type 0
-RowsAfter right r p =
+abbrev pub StatesAfter : List ℕ → ℕ → Span → Type 0
+StatesAfter right r p =
     (p ≡ record { at = 0; count = 0 }) ⊎ ((1 ≤ r) × (leafIn right 0 .set ≡ Explicit p) × (leafIn right 0 .after ≡ true))
 
--- the action does not apply in s, or leads from it to one of the rows
+-- the action does not apply in s, or leads from it to one of the listed states
 abbrev pub Closed : List ℕ → Span → Action → ℕ → Type 0
 Closed bytes p a s = (applies a s ≡ false) ⊎ (member (after a s) (statesAt bytes (p .at) (p .count)) ≡ true)
 

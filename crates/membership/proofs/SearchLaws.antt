@@ -1,6 +1,6 @@
 -- States listed in the file, by number, and what a search among states in order rules out.
 -- Assumes nothing.
-use mathlib.Core.Path.{_≡_, refl, ap, subst, sym, _∙_}
+use mathlib.Core.Path.{_≡_, ap, subst, sym, _∙_}
 use mathlib.Core.Logic.{inl, inr}
 use Prim.Native.Nat.{ℕ, zero, suc, _+_, _*_, _≤_, _<_}
 use native.Mathlib.Nat.{not-suc-le-zero, le-refl, le-of-suc-le-suc}
@@ -16,10 +16,8 @@ use Rattle.bytes.specs.Numbers.{numberAt}
 use Rattle.meaning.specs.Bytes.{number}
 use Rattle.bytes.proofs.ByteLaws.{number-in}
 use Rattle.certificate.specs.declared.Span.{Span}
-use Rattle.certificate.specs.Rows.{byRows, rowOf, stateIn, InOrder}
+use Rattle.certificate.specs.Rows.{rowOf, stateIn, InOrder}
 use Rattle.leaves.specs.Holds.{statesAt}
-use Rattle.membership.specs.declared.Listing.{Listing}
-use Rattle.membership.specs.Listed.{Listed}
 
 -- what holds from one number on up to i, and of i
 pub from-more : (Q : ℕ → Type 0) (from i : ℕ) → ((k : ℕ) → from ≤ k → k < i → Q k) → Q i → (k : ℕ) → from ≤ k → k < i + 1 → Q k
@@ -57,11 +55,6 @@ module _ (bytes : List ℕ) where
   -- a word that is read within the file
   pub word-in : (p : ℕ) → p + 8 ≤ length bytes → {x : ℕ} → x ≡ number 8 bytes p → x ≡ numberAt 8 bytes p
   word-in p l e = e ∙ sym (number-in 8 bytes p l)
-
--- states in order, with what is known of their rows
-pub listed : {bytes index : List ℕ} {x : Span} {l : Listing} → InOrder bytes index x → l ≡ record { states = x; rows = byRows index x }
-    → Listed bytes index l
-listed {bytes} {index} o e = subst (Listed bytes index) (sym e) (record { order = o; by-rows = refl })
 
 -- ---- a search among states in order
 
@@ -108,7 +101,7 @@ module _ (bytes index : List ℕ) (x : Span) (s : ℕ) where
     listed-in-order m =
         let (j, l, e) = listed-in bytes s (x .at) (x .count) m in
         let (k, n, q) = o .every j l in
-        (k, n, e ∙ ap (λ (r : ℕ). word bytes (x .at) r) (sym q))
+        (k, n, e ∙ sym q)
 
     pub search-missed : {lo hi : ℕ} → Bracket lo hi → hi ≤ lo → ltb (x .count) (x .count) ≡ among
     search-missed b l =

@@ -18,13 +18,6 @@ ghost use Rattle.meaning.specs.Sets.{allBelow, meets};
 ghost use Rattle.words.specs.Words.{wordsAt};
 ghost use Rattle.certificate.specs.Rows.{byRows, stateIn, InOrder};
 ghost use Rattle.leaves.specs.Holds.{statesAt, setHolds, Orderly};
-ghost use Rattle.membership.specs.Listed.{Listed};
-
-// Listed states, and whether they are in order by their rows in the table of entries or as they stand.
-pub struct Listing {
-    pub states: Span,
-    pub rows: bool,
-}
 
 // The guess, where it is one of so many, else the one in the middle.
 fn within(guess: usize, all: usize) -> usize
@@ -33,26 +26,20 @@ fn within(guess: usize, all: usize) -> usize
     if guess < all { guess } else { all >> 1 }
 }
 
-// Listed states as they are looked through: whether they are in order by their rows, or as they stand.
-pub fn listing_of(index: &Index, states: Span) -> Listing
-    requires { ⌜ states .at + 8 * states .count ≤ 65536 ⌝ }
-    ensures { λ r. ⌜ r ≡ record { states = states; rows = byRows (now (index .entry)) states } ⌝ }
+// Whether the states of explicit sets are in order by their rows; else they ascend as they stand.
+pub fn by_rows(index: &Index) -> bool
+    ensures { λ r. ⌜ r ≡ byRows (now (index .entry)) ⌝ }
 {
-    let mut rows = false;
-    if 1 < states.count {
-        let first = 768 + states.at as usize / 8;
-        rows = index[first] != index[first + 1];
-    }
-    Listing { states, rows }
+    index[8960] != 0
 }
 
-// The k-th of listed states by size.
-pub fn state_in(file: &[u8], index: &Index, x: Listing, k: usize) -> u64
-    requires { ⌜ Listed (now file) (now index) x × (k < x .states .count) ⌝ }
-    ensures { λ r. ⌜ r ≡ stateIn (now (file .entry)) (now (index .entry)) (x .states) k ⌝ }
+// The k-th of listed states by size, by their rows or as they stand.
+pub fn state_in(file: &[u8], index: &Index, x: Span, rows: bool, k: usize) -> u64
+    requires { ⌜ InOrder (now file) (now index) x × (rows ≡ byRows (now index)) × (k < x .count) ⌝ }
+    ensures { λ r. ⌜ r ≡ stateIn (now (file .entry)) (now (index .entry)) x k ⌝ }
 {
-    let at = x.states.at as usize;
-    if x.rows {
+    let at = x.at as usize;
+    if rows {
         let row = index[768 + at / 8 + k];
         return u64_in(file, at + 8 * row as usize);
     }
@@ -61,17 +48,17 @@ pub fn state_in(file: &[u8], index: &Index, x: Listing, k: usize) -> u64
 
 // Which of listed states a state is, by size, and their number where it is none of them. It is looked for from a guess in growing steps,
 // and then by halves: the states after an action often stand as those before it do.
-pub fn find(file: &[u8], index: &Index, x: Listing, guess: usize, s: u64) -> usize
-    requires { ⌜ Listed (now file) (now index) x ⌝ }
-    ensures { λ k. ⌜ ltb k (x .states .count) ≡ member s (statesAt (now (file .entry)) (x .states .at) (x .states .count)) ⌝ }
+fn search(file: &[u8], index: &Index, x: Span, rows: bool, guess: usize, s: u64) -> usize
+    requires { ⌜ InOrder (now file) (now index) x × (rows ≡ byRows (now index)) ⌝ }
+    ensures { λ k. ⌜ ltb k (x .count) ≡ member s (statesAt (now (file .entry)) (x .at) (x .count)) ⌝ }
 {
-    let all = x.states.count as usize;
+    let all = x.count as usize;
     let mut lo: usize = 0;
     let mut hi = all;
     let mut mid = within(guess, all);
     let mut step: usize = 1;
     while lo < hi {
-        let t = state_in(file, index, x, mid);
+        let t = state_in(file, index, x, rows, mid);
         if t == s {
             return mid;
         }
@@ -96,12 +83,24 @@ pub fn find(file: &[u8], index: &Index, x: Listing, guess: usize, s: u64) -> usi
     all
 }
 
+// The same. Each order has a call of its own, so that the search is compiled for it.
+pub fn find(file: &[u8], index: &Index, x: Span, rows: bool, guess: usize, s: u64) -> usize
+    requires { ⌜ InOrder (now file) (now index) x × (rows ≡ byRows (now index)) ⌝ }
+    ensures { λ k. ⌜ ltb k (x .count) ≡ member s (statesAt (now (file .entry)) (x .at) (x .count)) ⌝ }
+{
+    if rows {
+        search(file, index, x, true, guess, s)
+    } else {
+        search(file, index, x, false, guess, s)
+    }
+}
+
 // Whether a state is among the listed ones.
 fn among(file: &[u8], index: &Index, x: Span, s: u64) -> bool
     requires { ⌜ InOrder (now file) (now index) x ⌝ }
     ensures { λ b. ⌜ b ≡ member s (statesAt (now (file .entry)) (x .at) (x .count)) ⌝ }
 {
-    find(file, index, listing_of(index, x), 0, s) < x.count as usize
+    find(file, index, x, by_rows(index), 0, s) < x.count as usize
 }
 
 // Whether a state meets a clause.

@@ -16,11 +16,11 @@ use Rattle.listed.proofs.all_hold.Statement.{statement}
 use Rattle.listed.proofs.all_hold.Tie as tie
 
 abbrev Inv-loop : tie.InvT-loop
-Inv-loop file ends leaves m but s t j₀ j =
+Inv-loop file index ends leaves m but s t j₀ j =
     (j ≤ m) × (allBelow j (λ k. eqb k but || holdsOne file ends s t (leafIn leaves k)) ≡ true)
 
 abbrev μ-loop : tie.MeasureT-loop
-μ-loop file ends leaves m but s t j₀ j = m - j
+μ-loop file index ends leaves m but s t j₀ j = m - j
 
 loop-holds : tie.Need-loop-holds Inv-loop μ-loop
 loop-holds c = (search needs, all-none _)
@@ -31,7 +31,7 @@ leaf-at-requires c κs = let h = c .before .before .before .before .before .pre 
 holds-one-requires : tie.Need-holds-one-requires Inv-loop μ-loop
 holds-one-requires c κs =
     let s = c .before .before .before .before .before .before in
-    orderly-leaf _ _ _ (s .pre) _ (search needs) (c .leaf-at .ensures)
+    orderly-leaf _ _ _ _ (s .pre) _ (search needs) (c .leaf-at .ensures)
 
 returns : tie.Need-returns Inv-loop μ-loop
 returns c =

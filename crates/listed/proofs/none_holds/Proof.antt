@@ -13,10 +13,10 @@ use Rattle.listed.proofs.none_holds.Statement.{statement}
 use Rattle.listed.proofs.none_holds.Tie as tie
 
 abbrev Inv-loop : tie.InvT-loop
-Inv-loop file ends leaves r s t j₀ j = (j ≤ r) × (allBelow j (λ k. not (holdsOne file ends s t (leafIn leaves k))) ≡ true)
+Inv-loop file index ends leaves r s t j₀ j = (j ≤ r) × (allBelow j (λ k. not (holdsOne file ends s t (leafIn leaves k))) ≡ true)
 
 abbrev μ-loop : tie.MeasureT-loop
-μ-loop file ends leaves r s t j₀ j = r - j
+μ-loop file index ends leaves r s t j₀ j = r - j
 
 loop-holds : tie.Need-loop-holds Inv-loop μ-loop
 loop-holds c = (search needs, all-none _)
@@ -25,7 +25,7 @@ leaf-at-requires : tie.Need-leaf-at-requires Inv-loop μ-loop
 leaf-at-requires c κs = let h = c .before .before .before .before .pre .0 in search needs
 
 holds-one-requires : tie.Need-holds-one-requires Inv-loop μ-loop
-holds-one-requires c κs = orderly-leaf _ _ _ (c .before .before .before .before .before .pre) _ (search needs) (c .leaf-at .ensures)
+holds-one-requires c κs = orderly-leaf _ _ _ _ (c .before .before .before .before .before .pre) _ (search needs) (c .leaf-at .ensures)
 
 returns : tie.Need-returns Inv-loop μ-loop
 returns c =

@@ -1,72 +1,77 @@
--- `listed::one_shows` meets its contract. The invariant: none of the first `i` states shows it.
+-- `listed::one_shows` meets its contract. The invariant: none of the first `i` states by size shows it.
 -- Assumes nothing.
 use Prim.Native.Nat.{ℕ, _-_, _≤_}
 use mathlib.Core.Path.{_≡_, ap, sym, _∙_}
 use mathlib.Core.Bool.{Bool, false}
 use borrow.Author.Needs.{needs}
 use Rattle.meaning.specs.Sets.{someBelow}
+use Rattle.certificate.specs.Rows.{stateIn, InOrder}
 use Rattle.listed.specs.Search.{Closed, showsIn}
-use Rattle.membership.proofs.SearchLaws.{word, word-in}
-use Rattle.listed.proofs.ShownLaws.{rows-ordered, closed-shows}
+use Rattle.listed.proofs.ShownLaws.{states-ordered, closed-shows}
 use Rattle.membership.proofs.LoopLaws.{some-none, some-more, some-range, some-found, some-done}
 use Rattle.listed.proofs.one_shows.Statement.{statement}
 use Rattle.listed.proofs.one_shows.Tie as tie
 
 abbrev Inv-loop : tie.InvT-loop
-Inv-loop file ends left m right r anchor a rows at count states i₀ i =
-    (i ≤ count) × (someBelow i (λ k. showsIn file ends a left m right r anchor (word file at k)) ≡ false)
+Inv-loop file index ends left m right r anchor a x rows into count i₀ i =
+    (i ≤ x .count) × (someBelow i (λ k. showsIn file ends a left m right r anchor (stateIn file index x k)) ≡ false)
 
 abbrev μ-loop : tie.MeasureT-loop
-μ-loop file ends left m right r anchor a rows at count states i₀ i = count - i
+μ-loop file index ends left m right r anchor a x rows into count i₀ i = x .count - i
 
 -- whether state k shows it
 abbrev shows : tie.Start Inv-loop μ-loop → ℕ → Bool
 shows c k =
     let a = c .args in
-    showsIn (a .file .now) (a .ends) (a .a) (a .left .now) (a .m) (a .right .now) (a .r) (a .anchor) (word (a .file .now) (a .x .at) k)
+    showsIn (a .file .now) (a .ends) (a .a) (a .left .now) (a .m) (a .right .now) (a .r) (a .anchor)
+    (stateIn (a .file .now) (a .index .now) (a .x) k)
 
 -- not where it is closed
-closed-not : (c : tie.After-struct-known Inv-loop μ-loop) → let s = c .before .before .before .before .before in
+closed-not : (c : tie.After-struct-known Inv-loop μ-loop) → let s = c .before .before .before .before .before .before in
     let a = s .args in
-    (k : ℕ) → Closed (a .file .now) (c .before .rows-after .result) (a .a) (word (a .file .now) (a .x .at) k) → shows s k ≡ false
-closed-not c k = closed-shows _ _ _ _ _ _ _ _ _ _ (c .before .rows-after .ensures)
+    (k : ℕ) → Closed (a .file .now) (c .before .states-after .result) (a .a) (stateIn (a .file .now) (a .index .now) (a .x) k)
+    → shows s k ≡ false
+closed-not c k = closed-shows _ _ _ _ _ _ _ _ _ _ (c .before .states-after .ensures)
+
+-- the states that the action may lead to are in order
+into-ordered : (c : tie.After-struct-known Inv-loop μ-loop) → let a = c .before .before .before .before .before .before .args in
+    InOrder (a .file .now) (a .index .now) (c .before .states-after .result)
+into-ordered c =
+    let s = c .before .before .before .before .before .before in
+    states-ordered _ _ _ _ _ (s .pre .1 .short) (s .pre .0 .1) (c .before .states-after .ensures)
 
 -- the test of a turn
 tested : (c : tie.After-shows-in Inv-loop μ-loop) → let v = c .before .before .before in
-    shows (v .before .before .before .before .before .before .before) (v .loop .i) ≡ c .shows-in .result
-tested c =
-    let v = c .before .before .before in
-    let s = v .before .before .before .before .before .before .before in
-    let a = s .args in
-    let e = word-in (a .file .now) (a .x .at) (a .x .count) (v .loop .i) (s .pre .1) (search needs) (c .before .u64-in .ensures) in
-    ap (showsIn _ _ _ _ _ _ _ _) (sym e) ∙ sym (c .shows-in .ensures)
+    shows (v .before .before .before .before .before .before .before .before) (v .loop .i) ≡ c .shows-in .result
+tested c = ap (showsIn _ _ _ _ _ _ _ _) (sym (c .before .state-in .ensures)) ∙ sym (c .shows-in .ensures)
 
-rows-after-requires : tie.Need-rows-after-requires Inv-loop μ-loop
-rows-after-requires c κs = c .before .before .before .pre .0 .1 .0
+states-after-requires : tie.Need-states-after-requires Inv-loop μ-loop
+states-after-requires c κs = c .before .before .before .before .pre .0 .1 .0
 
 first-open-requires : tie.Need-first-open-requires Inv-loop μ-loop
 first-open-requires c κs =
-    let s = c .before .before .before .before .before in
-    (search needs, s .pre .1, rows-ordered _ _ _ _ (s .pre .0 .1) (c .before .rows-after .ensures))
+    let s = c .before .before .before .before .before .before in
+    (s .pre .1, into-ordered c, c .before .before .by-rows .ensures, search needs)
 
 loop-holds : tie.Need-loop-holds Inv-loop μ-loop
 loop-holds c =
     (c .first-open .ensures .0, some-range _ 0 _ (some-none _) (λ k l m. closed-not (c .before) k (c .first-open .ensures .2 k l m)))
 
-u64-in-requires : tie.Need-u64-in-requires Inv-loop μ-loop
-u64-in-requires c κs = let v = c .before .before in let h = v .before .before .before .before .before .before .pre .1 in search needs
+state-in-requires : tie.Need-state-in-requires Inv-loop μ-loop
+state-in-requires c κs =
+    let d = c .before .before .before in
+    (d .before .before .before .before .before .before .pre .1, d .before .before .by-rows .ensures, search needs)
 
 shows-in-requires : tie.Need-shows-in-requires Inv-loop μ-loop
-shows-in-requires c κs = let v = c .before .before in v .before .before .before .before .before .before .before .pre .0
+shows-in-requires c κs = c .before .before .before .before .before .before .before .before .before .before .pre .0
 
 returns : tie.Need-returns Inv-loop μ-loop
 returns c = some-found _ _ (c .before .before .before .before .loop .i) (search needs) (tested (c .before) ∙ c .if1 .taken)
 
 first-open-requires-2 : tie.Need-first-open-requires-2 Inv-loop μ-loop
 first-open-requires-2 c κs =
-    let v = c .before .before .before .before .before .before in
-    let s = v .before .before .before .before .before in
-    (search needs, s .pre .1, rows-ordered _ _ _ _ (s .pre .0 .1) (v .before .rows-after .ensures))
+    let d = c .before .before .before .before .before .before in
+    (d .before .before .before .before .before .before .pre .1, into-ordered d, d .before .before .by-rows .ensures, search needs)
 
 loop-again : tie.Need-loop-again Inv-loop μ-loop
 loop-again c =
@@ -85,15 +90,12 @@ one-shows-spec =
     (tie.spec
     Inv-loop
     μ-loop
-    rows-after-requires
-    (λ c. search needs)
+    (λ c κs. search needs)
+    states-after-requires
     (λ c. search needs)
     first-open-requires
     loop-holds
-    (λ c. search needs)
-    (λ c. search needs)
-    (λ c. search needs)
-    u64-in-requires
+    state-in-requires
     shows-in-requires
     returns
     (λ c. search needs)

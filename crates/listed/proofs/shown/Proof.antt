@@ -6,6 +6,7 @@ use mathlib.Core.Logic.{_↔_}
 use lib.Dec.{T}
 use borrow.Author.Needs.{needs}
 use Rattle.certificate.specs.declared.BasicEntry.{BasicEntry}
+use Rattle.certificate.specs.Rows.{InOrder}
 use Rattle.leaves.specs.declared.Leaf.{Leaf}
 use Rattle.leaves.specs.Leaves.{leafIn, leavesIn}
 use Rattle.leaves.specs.Holds.{Orderly}
@@ -30,12 +31,19 @@ never c y e n =
 shows-in-requires : tie.Need-shows-in-requires
 shows-in-requires c κs = let p = c .before .before .before .before .before .before .pre in ((p .0 .0, p .1 .0), (p .0 .1, p .1 .1))
 
+-- the anchor's states are in order
+in-order : (c : tie.After-set) → let a = c .before .before .before .before .before .before .args in
+    InOrder (a .file .now) (a .index .now) (c .set .given .0 .0)
+in-order c =
+    let v = c .before .before in
+    let p = v .before .before .before .before .pre in
+    let o = orderly-leaf _ _ _ _ (p .0 .0, p .1 .0) _ (p .0 .2) (v .leaf-at .ensures) in
+    subst (Orderly _ _) (c .set .given .1) o
+
 one-shows-requires : tie.Need-one-shows-requires
 one-shows-requires c κs =
-    let v = c .before .before .before in
-    let p = v .before .before .before .before .pre in
-    let o = orderly-leaf _ _ _ (p .0 .0, p .1 .0) _ (p .0 .2) (v .leaf-at .ensures) in
-    (((p .0 .0, p .1 .0), (p .0 .1, p .1 .1)), subst (Orderly _) (c .before .set .given .1) o .inside)
+    let p = c .before .before .before .before .before .before .before .pre in
+    (((p .0 .0, p .1 .0), (p .0 .1, p .1 .1)), in-order (c .before))
 
 returns-empty : tie.Need-returns
 returns-empty c =
@@ -53,7 +61,8 @@ returns-explicit : tie.Need-returns-4
 returns-explicit c =
     let v = c .before .before .before .before in
     let p = v .before .before .before .before .pre .0 in
-    shown-some _ _ _ _ _ _ _ _ (p .0) (p .1) (p .2) (p .3) _ (set-is v _ (c .before .before .set .given .1)) (c .one-shows .ensures)
+    shown-some _ _ _ _ _ _ _ _ (p .0) (p .1) (p .2) (p .3) _ _ (in-order (c .before .before)) (set-is v _ (c .before .before .set .given .1))
+    (c .one-shows .ensures)
 
 pub shown-spec : {M : Type 1} → statement M
 shown-spec =

@@ -17,29 +17,29 @@ module _ (c : tie.After-row) where
   abbrev start : tie.Start
   start = c .before .before .before .before
 
-  row-is : rowOf (start .args .index .now) (start .args .x .states) (start .args .k)
-      ≡ getD (start .args .index .now) (firstRow (start .args .x .states .at) + start .args .k) 0
+  row-is : rowOf (start .args .index .now) (start .args .x) (start .args .k)
+      ≡ getD (start .args .index .now) (firstRow (start .args .x .at) + start .args .k) 0
   row-is =
-      row-some (start .args .index .now) (start .args .x .states) (sym (start .pre .0 .by-rows) ∙ c .before .if1 .taken) (start .args .k)
+      row-some (start .args .index .now) (start .args .x) (start .args .k) (sym (start .pre .1) ∙ c .before .if1 .taken)
 
-  row-below : getD (start .args .index .now) (firstRow (start .args .x .states .at) + start .args .k) 0 < start .args .x .states .count
-  row-below = omega (arith, row-is, start .pre .0 .order .below (start .args .k) (start .pre .1))
+  row-below : getD (start .args .index .now) (firstRow (start .args .x .at) + start .args .k) 0 < start .args .x .count
+  row-below = omega (arith, row-is, start .pre .0 .below (start .args .k) (start .pre .2))
 
 u64-in-requires : tie.Need-u64-in-requires
-u64-in-requires c κs = omega (arith, row-below c, start c .pre .0 .order .inside)
+u64-in-requires c κs = omega (arith, row-below c, start c .pre .0 .inside)
 
 returns : tie.Need-returns
 returns c =
     let s = start (c .before) in
-    word-in (s .args .file .now) _ (omega (arith, row-below (c .before), s .pre .0 .order .inside)) (c .u64-in .ensures)
-    ∙ ap (λ (r : ℕ). numberAt 8 (s .args .file .now) (s .args .x .states .at + 8 * r)) (sym (row-is (c .before)))
+    word-in (s .args .file .now) _ (omega (arith, row-below (c .before), s .pre .0 .inside)) (c .u64-in .ensures)
+    ∙ ap (λ (r : ℕ). numberAt 8 (s .args .file .now) (s .args .x .at + 8 * r)) (sym (row-is (c .before)))
 
 returns-2 : tie.Need-returns-2
 returns-2 c =
     let s = c .before .before .before .before in
-    let x = s .args .x .states in
-    let e = row-none (s .args .index .now) x (sym (s .pre .0 .by-rows) ∙ c .before .if1 .left) (s .args .k) in
-    word-in (s .args .file .now) _ (omega (arith, s .pre .0 .order .inside, s .pre .1)) (c .u64-in2 .ensures)
+    let x = s .args .x in
+    let e = row-none (s .args .index .now) x (s .args .k) (sym (s .pre .1) ∙ c .before .if1 .left) in
+    word-in (s .args .file .now) _ (omega (arith, s .pre .0 .inside, s .pre .2)) (c .u64-in2 .ensures)
     ∙ ap (λ (r : ℕ). numberAt 8 (s .args .file .now) (x .at + 8 * r)) (sym e)
 
 pub state-in-spec : {M : Type 1} → statement M

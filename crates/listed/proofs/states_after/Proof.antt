@@ -1,12 +1,12 @@
--- `listed::rows_after` meets its contract.
+-- `listed::states_after` meets its contract.
 -- Assumes nothing.
 use mathlib.Core.Path.{refl, sym, ap, _∙_}
 use mathlib.Core.Logic.{inl, inr}
 use borrow.Author.Needs.{needs}
 use borrow.Author.Tests.{not-false}
 use Rattle.leaves.specs.declared.Leaf.{Leaf}
-use Rattle.listed.proofs.rows_after.Statement.{statement}
-use Rattle.listed.proofs.rows_after.Tie as tie
+use Rattle.listed.proofs.states_after.Statement.{statement}
+use Rattle.listed.proofs.states_after.Tie as tie
 
 returns-4 : tie.Need-returns-4
 returns-4 c =
@@ -14,6 +14,6 @@ returns-4 c =
     let e = sym (v .before .before .leaf-at .ensures) in
     inr (search needs, ap (λ (x : Leaf). x .set) e ∙ c .before .set .given .1, ap (λ (x : Leaf). x .after) e ∙ not-false _ (v .if2 .left))
 
-pub rows-after-spec : {M : Type 1} → statement M
-rows-after-spec =
+pub states-after-spec : {M : Type 1} → statement M
+states-after-spec =
     tie.close (tie.spec (λ c. inl refl) (λ c κs. search needs) (λ c. inl refl) (λ c. search needs) (λ c. inl refl) returns-4)
