@@ -69,11 +69,11 @@ module _ (bytes : List ℕ) (index : List ℕ) (k : Known bytes index) (e : ℕ)
       unfolding setOf basicIn
       as-set = ap basicIn (sym q ∙ z)
 
-      pub set-orderly : Orderly bytes b
+      pub set-orderly : Orderly bytes index b
       set-orderly =
           let w = seen (Basic b) z in
-          subst (Orderly bytes) as-set
-          (limits-orderly bytes (f .task .facts) (setOf index f e) (known-limits bytes index k e (w .0) (w .1)))
+          subst (Orderly bytes index) as-set
+          (limits-orderly bytes index (f .task .facts) (setOf index f e) (known-limits bytes index k e (w .0) (w .1)))
 
       pub set-in : (ends : Ends) → ends ≡ endsOf (f .task) → (s : ℕ) → setHolds bytes ends b s ≡ inSet f e s
       set-in ends t s =

@@ -47,7 +47,7 @@ pub fn member(file: &[u8], index: &Index, ends: Ends, e: u16, s: u64) -> bool
     ensures { λ r. ⌜ r ≡ inSet (decoded (now (file .entry))) e s ⌝ }
 {
     match state_set(file, index, e) {
-        StateEntry::Basic(b) => set_holds(file, ends, b, s),
+        StateEntry::Basic(b) => set_holds(file, index, ends, b, s),
         StateEntry::Complement(a) => !member(file, index, ends, a, s),
         StateEntry::Intersection(a, b) => {
             member(file, index, ends, a, s) & member(file, index, ends, b, s)

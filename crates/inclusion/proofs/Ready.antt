@@ -56,7 +56,7 @@ module _ (bytes : List ℕ) (index : List ℕ) (k : Known bytes index) where
 
   -- what is so of sets within the limits that are of the entries' kinds is so of their leaves
   each-leaf : (P : Leaf → Type 0) (xs : List Asked) → AllBasic f xs
-      → ((x : Leaf) → WithinLimits bytes (f .task .facts) (x .set) → T (member (kindOf (x .set)) (kindsOf f xs)) → P x)
+      → ((x : Leaf) → WithinLimits bytes index (f .task .facts) (x .set) → T (member (kindOf (x .set)) (kindsOf f xs)) → P x)
       → Each P (map (leafOf index f) xs)
   unfolding leafOf kindsOf
   each-leaf P [] b h = tt
@@ -67,11 +67,11 @@ module _ (bytes : List ℕ) (index : List ℕ) (k : Known bytes index) where
         each-leaf P xs (b .1) (λ y l m. h y l (member-rest _ (kindAt f (x .entry)) (kindsOf f xs) m)),
       )
 
-  orderly : (xs : List Asked) → AllBasic f xs → Each (λ y. Orderly bytes (y .set)) (map (leafOf index f) xs)
-  orderly xs b = each-leaf (λ y. Orderly bytes (y .set)) xs b (λ y l _. limits-orderly bytes (f .task .facts) (y .set) l)
+  orderly : (xs : List Asked) → AllBasic f xs → Each (λ y. Orderly bytes index (y .set)) (map (leafOf index f) xs)
+  orderly xs b = each-leaf (λ y. Orderly bytes index (y .set)) xs b (λ y l _. limits-orderly bytes index (f .task .facts) (y .set) l)
 
   -- a set whose states are listed, within the file's facts
-  lists : (v : BasicEntry) → WithinLimits bytes (f .task .facts) v → T (mayAnchor v) → ListsStates bytes ends v
+  lists : (v : BasicEntry) → WithinLimits bytes index (f .task .facts) v → T (mayAnchor v) → ListsStates bytes ends v
   unfolding endsOf
   lists Empty l w = tt
   lists Init l w = read-file bytes (k .read) .task .init
@@ -93,7 +93,7 @@ module _ (bytes : List ℕ) (index : List ℕ) (k : Known bytes index) where
 
     -- and all clauses are of one sort
     clausal : (n : ℕ) (two : Bool) → (T (member 4 ks) → two ≡ false) → (T (member 5 ks) → two ≡ true)
-        → (v : BasicEntry) → WithinLimits bytes n v → T (member (kindOf v) ks) → ClausalSet bytes two v
+        → (v : BasicEntry) → WithinLimits bytes index n v → T (member (kindOf v) ks) → ClausalSet bytes two v
     unfolding kindOf
     clausal n two four five Empty l m = tt
     clausal n two four five Init l m = tt
@@ -156,14 +156,14 @@ module _ (bytes : List ℕ) (index : List ℕ) (k : Known bytes index) where
           in-right Unlisted (each-leaf Unlisted ys (h .basic-right) (λ y l.
           unlisted (kindsOf f ys) (λ m. none-listed (or-right (member 3 (kindsOf f xs)) (member 3 (kindsOf f ys)) m)) (y .set)))
 
-    pub searchable : Searchable bytes ends left right g
+    pub searchable : Searchable bytes index ends left right g
     unfolding endsOf
     searchable = record {
       facts = read-file bytes (k .read) .task .few-facts;
       room-left = fewer-left;
       room-right = leaves-room right (g .«right_count») ys (h .right-leaves) (h .right-count);
-      orderly-left = in-left (λ y. Orderly bytes (y .set)) (orderly xs (h .basic-left));
-      orderly-right = in-right (λ y. Orderly bytes (y .set)) (orderly ys (h .basic-right));
+      orderly-left = in-left (λ y. Orderly bytes index (y .set)) (orderly xs (h .basic-left));
+      orderly-right = in-right (λ y. Orderly bytes index (y .set)) (orderly ys (h .basic-right));
       anchored = λ q. (h .anchored q .0, anchor q);
       clausal-left = left-clausal;
       clausal-right = right-unlisted;

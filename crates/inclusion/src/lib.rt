@@ -34,13 +34,14 @@ pub enum Verdict {
 // Whether an action makes a statement with these leaves untrue.
 fn one_refutes(
     file: &[u8],
+    index: &Index,
     ends: Ends,
     left: &[u64; 24],
     right: &[u64; 16],
     g: Gathered,
     a: Action,
 ) -> bool
-    requires { ⌜ Searchable (now file) ends (now left) (now right) g ⌝ }
+    requires { ⌜ Searchable (now file) (now index) ends (now left) (now right) g ⌝ }
     requires { ⌜ a .add < 2 ^ ends .facts ⌝ }
     ensures { λ r. ⌜ T r ↔ Countered (now (file .entry)) ends a (leavesIn (now (left .entry)) (g .«left_count»)) (leavesIn (now (right .entry)) (g .«right_count»)) ⌝ }
 {
@@ -48,7 +49,7 @@ fn one_refutes(
     if g.listed {
         let r = g.right_count as usize;
         let anchor = g.anchor as usize;
-        return shown(file, ends, left, m, right, r, anchor, a);
+        return shown(file, index, ends, left, m, right, r, anchor, a);
     }
     refuted(file, ends, left, m, right, g.two, a)
 }
@@ -63,7 +64,7 @@ fn some_refutes(
     g: Gathered,
 ) -> bool
     requires { ⌜ Known (now file) (now index) × (ends ≡ endsOf (decoded (now file) .task)) ⌝ }
-    requires { ⌜ Searchable (now file) ends (now left) (now right) g ⌝ }
+    requires { ⌜ Searchable (now file) (now index) ends (now left) (now right) g ⌝ }
     requires { ⌜ g .actions < length (decoded (now file) .actionSets) ⌝ }
     ensures { λ r. ⌜ T r ↔ SomeCountered (now (file .entry)) ends (now (left .entry)) (now (right .entry)) g ⌝ }
 {
@@ -73,7 +74,7 @@ fn some_refutes(
     while i < count {
         if is_marked(marks, i) {
             let a = action(file, i);
-            if one_refutes(file, ends, left, right, g, a) {
+            if one_refutes(file, index, ends, left, right, g, a) {
                 return true;
             }
         }
@@ -104,7 +105,7 @@ fn is_countered(
     g: Gathered,
 ) -> bool
     requires { ⌜ Known (now file) (now index) × (ends ≡ endsOf (decoded (now file) .task)) ⌝ }
-    requires { ⌜ Searchable (now file) ends (now left) (now right) g ⌝ }
+    requires { ⌜ Searchable (now file) (now index) ends (now left) (now right) g ⌝ }
     requires { ⌜ (hasBracket rule ≡ true → g .actions < length (decoded (now file) .actionSets)) ⌝ }
     ensures { λ r. ⌜ T r ↔ ByRule (now (file .entry)) ends (now (left .entry)) (now (right .entry)) g rule ⌝ }
 {
@@ -116,7 +117,7 @@ fn is_countered(
         add: 0,
         del: 0,
     };
-    one_refutes(file, ends, left, right, g, nothing)
+    one_refutes(file, index, ends, left, right, g, nothing)
 }
 
 // The verdict on a permitted statement.

@@ -3,7 +3,7 @@ use certificate::Index;
 use certificate::Outline;
 use certificate::Places;
 use certificate::StateEntry;
-use certificate::index::index_of;
+use certificate::index::put_entries;
 use holding::member;
 use layout::full_limits;
 use layout::read_layout;
@@ -77,7 +77,8 @@ pub fn ask(file: &[u8], entry: u64, state: u64) -> Answer
     match read_layout(file, full_limits()) {
         Outline::Refused { number, place } => Answer::Refused { number, place },
         Outline::Lawful(at) => {
-            let index = index_of(file, at);
+            let mut index = [0u16; 8961];
+            put_entries(file, at, &mut index);
             answer(file, at, &index, entry, state)
         }
     }

@@ -2,7 +2,7 @@
 use certificate::Index;
 use certificate::Outline;
 use certificate::Places;
-use certificate::index::index_of;
+use certificate::index::put_entries;
 use layout::full_limits;
 use layout::read_layout;
 use layout::small_limits;
@@ -43,7 +43,8 @@ fn check_by(file: &[u8], limits: Limits, rules: &RuleTable) -> Reply
             Reply::Refused { number, place }
         }
         Outline::Lawful(at) => {
-            let index = index_of(file, at);
+            let mut index = [0u16; 8961];
+            put_entries(file, at, &mut index);
             check_from(file, at, &index, rules, 0)
         }
     }
@@ -140,7 +141,8 @@ pub fn check_round(file: &[u8], from: u64, count: u64) -> Round
             Round::Refused { number, place }
         }
         Outline::Lawful(at) => {
-            let index = index_of(file, at);
+            let mut index = [0u16; 8961];
+            put_entries(file, at, &mut index);
             round_of(file, at, &index, from, count)
         }
     }

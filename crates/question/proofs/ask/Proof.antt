@@ -3,6 +3,7 @@
 use mathlib.Core.Path.{_∙_, refl}
 use borrow.Author.Needs.{needs}
 use Rattle.certificate.specs.Known.{Placed}
+use Rattle.certificate.proofs.IndexLaws.{zeros}
 use Rattle.certificate.proofs.OutlineKnown.{lawful-placed, refused-full}
 use Rattle.question.proofs.AskableLaws.{read-answer, unread-answer}
 use Rattle.question.proofs.ask.Statement.{statement}
@@ -13,8 +14,11 @@ placed : (c : tie.After-known-told2)
     → Placed (c .before .before .before .before .before .before .args .file .now) (c .before .at .given .0 .0)
 placed c = lawful-placed _ _ (c .before .before .before .read-layout .ensures) _ (c .before .at .given .1)
 
+put-entries-requires : tie.Need-put-entries-requires
+put-entries-requires c κs = (placed (c .before), refl, zeros 8961)
+
 answer-requires : tie.Need-answer-requires
-answer-requires c κs = let v = c .before in (placed (v .before), v .index-of .ensures)
+answer-requires c κs = let v = c .before .before in (placed (v .before .before), v .put-entries .ensures)
 
 returns : tie.Need-returns
 returns c =
@@ -23,7 +27,7 @@ returns c =
     (unread-answer _ _ _ _ _ r, refl)
 
 returns-2 : tie.Need-returns-2
-returns-2 c = (c .answer .ensures ∙ read-answer _ _ _ _ (placed (c .before .before .before) .read), refl)
+returns-2 c = (c .answer .ensures ∙ read-answer _ _ _ _ (placed (c .before .before .before .before .before) .read), refl)
 
 pub ask-spec : {M : Type 1} → statement M
 ask-spec =
@@ -33,7 +37,8 @@ ask-spec =
     (λ c κs. search needs)
     (λ c. search needs)
     (λ c. search needs)
-    (λ c κs. placed c)
+    (λ c. search needs)
+    put-entries-requires
     answer-requires
     returns
     returns-2)

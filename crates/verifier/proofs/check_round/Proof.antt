@@ -2,18 +2,23 @@
 -- Assumes nothing.
 use mathlib.Core.Path.{refl}
 use borrow.Author.Needs.{needs}
+use Rattle.certificate.specs.Known.{Placed}
+use Rattle.certificate.proofs.IndexLaws.{zeros}
 use Rattle.certificate.proofs.OutlineKnown.{lawful-placed, refused-full}
 use Rattle.verifier.proofs.CheckLaws.{unread-round}
 use Rattle.verifier.proofs.check_round.Statement.{statement}
 use Rattle.verifier.proofs.check_round.Tie as tie
 
-index-of-requires : tie.Need-index-of-requires
-index-of-requires c κs = let a = c .before in lawful-placed _ _ (a .before .before .read-layout .ensures) _ (a .at .given .1)
+-- where the file is lawful, these are its places
+placed : (c : tie.After-known-told2)
+    → Placed (c .before .before .before .before .before .before .args .file .now) (c .before .at .given .0 .0)
+placed c = lawful-placed _ _ (c .before .before .before .read-layout .ensures) _ (c .before .at .given .1)
+
+put-entries-requires : tie.Need-put-entries-requires
+put-entries-requires c κs = (placed (c .before), refl, zeros 8961)
 
 round-of-requires : tie.Need-round-of-requires
-round-of-requires c κs =
-    let a = c .before .before .before in
-    (lawful-placed _ _ (a .before .before .read-layout .ensures) _ (a .at .given .1), c .before .index-of .ensures)
+round-of-requires c κs = let v = c .before .before in (placed (v .before .before), v .put-entries .ensures)
 
 returns : tie.Need-returns
 returns c =
@@ -24,5 +29,5 @@ returns c =
 pub check-round-spec : {M : Type 1} → statement M
 check-round-spec =
     tie.close (tie.spec
-    (λ c κs. search needs) (λ c κs. search needs) (λ c. search needs) (λ c. search needs) (λ c. search needs) index-of-requires
-    round-of-requires returns (λ c. search needs))
+    (λ c κs. search needs) (λ c κs. search needs) (λ c. search needs) (λ c. search needs) (λ c. search needs) (λ c. search needs)
+    put-entries-requires round-of-requires returns (λ c. search needs))

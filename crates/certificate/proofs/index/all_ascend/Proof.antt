@@ -44,10 +44,11 @@ loop-again : tie.Need-loop-again Inv-loop μ-loop
 loop-again c =
     let d = c .before .before .before in
     let s = d .before .before .before .before .before in
-    let b = c .before .ascends .result in
-    (up-more (s .args .file .now) (s .args .index .now) (d .before .before .loop .inv .0) (d .states-at .ensures)
-    (c .before .ascends .ensures .0 (holds {b = b} (not-false b (c .if1 .left)))),
-    search needs)
+    let b = c .before .ascends .result in (
+      up-more (s .args .file .now) (s .args .index .now) (d .before .before .loop .inv .0) (d .states-at .ensures)
+          (c .before .ascends .ensures .0 (holds {b = b} (not-false b (c .if1 .left)))),
+      search needs,
+    )
 
 returns-2 : tie.Need-returns-2 Inv-loop μ-loop
 returns-2 c = ((λ _ e l. c .before .loop .inv .0 e (omega (arith, c .loop-test .left))), λ _. tt)
