@@ -16,7 +16,7 @@ use Rattle.meaning.specs.Points.{HandsBack, RunIsSafe, RoundSays, EndsEl
 use Rattle.meaning.specs.Points.{OutsideFitsLetters, RoundRefusals, FullLimits, RepliesAlike, FirstBreach, SmallIsAccepted}
 use Rattle.meaning.specs.Points.{SmallIsSafe, CertainLength, SmallSafeIsAccepted, SmallCertainCertificate, LimitCases}
 use Rattle.meaning.specs.Points.{LimitRefusals, OrderAlike, LimitedOrderAlike, NumberedOrderAlike, RoundOrderAlike}
-use Rattle.meaning.specs.Points.{AnswerOrderAlike, NoOrderFault, OrderCases}
+use Rattle.meaning.specs.Points.{AnswerOrderAlike, FirstWrongState, NoOrderFault, OrderCases}
 use Rattle.meaning.proofs.Computed.{computed}
 use Rattle.meaning.proofs.Judgements.{judgements-true, accepted-is-safe}
 use Rattle.meaning.proofs.Certain.{certain-certificate, safe-is-accepted, certain-length, small-safe-is-accepted}
@@ -30,7 +30,7 @@ use Rattle.meaning.proofs.Rewriting.{plain-numbers, rewriting-is-biject
 use Rattle.meaning.proofs.Outside.{outside-fits-letters}
 use Rattle.meaning.proofs.Rounds.{round-says, hands-back, one-round}
 use Rattle.meaning.proofs.RelistedReads.{order-alike, limited-order-alike, numbered-order-alike, round-order-alike}
-use Rattle.meaning.proofs.RelistedReads.{answer-order-alike, no-order-fault}
+use Rattle.meaning.proofs.RelistedReads.{answer-order-alike, first-wrong-state, no-order-fault}
 use Rattle.meaning.proofs.Runs.{run-is-check, run-ends, run-is-safe, fewest-rounds, questions-between}
 
 pub the-sample-has-234-bytes : SampleLength
@@ -191,6 +191,9 @@ the-order-of-states-changes-no-round = round-order-alike
 
 pub the-order-of-states-changes-no-answer : AnswerOrderAlike
 the-order-of-states-changes-no-answer = answer-order-alike
+
+pub a-wrong-state-is-the-first-of-its-set : FirstWrongState
+a-wrong-state-is-the-first-of-its-set = first-wrong-state
 
 pub an-explicit-set-is-not-refused-with-7 : NoOrderFault
 an-explicit-set-is-not-refused-with-7 = no-order-fault

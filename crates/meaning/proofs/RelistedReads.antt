@@ -8,6 +8,8 @@ use native.Mathlib.Omega.{arith}
 use mathlib.Core.Option.{some}
 use mathlib.Core.List.{List}
 use lib.ListN.{length, getElem?}
+use lib.Dec.{T, eqb, eqb→eq}
+use Rattle.task.proofs.Tests.{or-cases}
 use Rattle.meaning.specs.Result.{Result, refuse, found, _>>=_, need}
 use Rattle.meaning.specs.Bytes.{number}
 use Rattle.meaning.specs.declared.Limits.{Limits}
@@ -26,14 +28,14 @@ use Rattle.meaning.specs.Numbering.{checkNumbers, ruleMeant, rewritten, 
 use Rattle.meaning.specs.Rounds.{checkRound, roundTo, roundOf}
 use Rattle.meaning.specs.Question.{askable, answerTo, answerOf}
 use Rattle.meaning.specs.Points.{SameInAnyOrder, OrderAlike, LimitedOrderAlike, NumberedOrderAlike, RoundOrderAlike}
-use Rattle.meaning.specs.Points.{AnswerOrderAlike, NoOrderFault}
+use Rattle.meaning.specs.Points.{AnswerOrderAlike, FirstWrongState, NoOrderFault}
 use Rattle.meaning.proofs.LayoutFaults.{count-in, items-in, step-in, task-in}
 use Rattle.meaning.proofs.Breaches.{action-table, entry-stage}
 use Rattle.meaning.proofs.Refusals.{check-ok, reply-number}
 use Rattle.meaning.proofs.Relisted.{setCount, before-sets, action-set-ends, Free, free-before, free-head, free-rest}
 use Rattle.meaning.proofs.Relisted.{number-same}
 use Rattle.meaning.proofs.RelistedParts.{items-eq, count-eq, step-eq, task-eq, entry-eq, action-kinds-eq}
-use Rattle.meaning.proofs.Twins.{Twin, alike, wrong, both, bind, same, same-then, need-then, none-in, none-first, entries-twin}
+use Rattle.meaning.proofs.Twins.{OfStates, Twin, alike, wrong, both, bind, same, same-then, need-then, none-in, none-first, entries-twin}
 use Rattle.meaning.proofs.RelistedSets.{state-entry}
 use Rattle.meaning.proofs.Alike.{AlikeSet, AlikeSets, Alike}
 use Rattle.meaning.proofs.AlikeChecks.{alike-check, alike-round, alike-askable, alike-holds, alike-rewritten}
@@ -150,19 +152,32 @@ pub numbered-order-alike : NumberedOrderAlike
 unfolding replyNumbered
 numbered-order-alike numbers = numbered (ruleMeant numbers) (checkNumbers numbers)
 
--- ---- 7
+-- ---- 5 and 7 in a listed state
 
 -- a file lists its states as it does
 itself : (bytes : List ℕ) → Relisted bytes bytes
 itself bytes = record { size = refl; others = λ _ _. refl; states = λ _ _ _. refl }
 
-no-seven : {a b : List ℕ} {x y : Result File} → Twin a b Alike x y
-    → (p : ℕ) → replyTo (x >>= checkFile) ≡ Refused 7 p → InState a p → ⊥
+-- a refusal with one of them there is 5 at the first wrong state of a set
+first-wrong : {a b : List ℕ} {x y : Result File} → Twin a b Alike x y
+    → (r p : ℕ) → T (OfStates r) → replyTo (x >>= checkFile) ≡ Refused r p → InState a p
+    → (r ≡ 5) × ((e : ℕ) × (e < setCount a) × (getElem? (wrongIn a e) 0 ≡ some p))
 unfolding replyTo _>>=_
-no-seven (alike {r = r} {p = q} n) p e s = let i : r ≡ 7 = cc in let j : q ≡ p = cc in n i (rw j s)
-no-seven (wrong e l v w) p i s = let z : _≡_ {A = ℕ} 5 7 = cc in omega arith
-no-seven (both {x = f} g) p e s = let h = reply-number (check-ok f) 7 p e in omega arith
+first-wrong (alike {r = k} {p = q} n) r p o e s = let i : k ≡ r = cc in let j : q ≡ p = cc in absurd (n (rw i o) (rw j s))
+first-wrong (wrong e {p = q} l v w) r p o i s = let j : q ≡ p = cc in (cc, (e, l, rw (← j) v))
+first-wrong (both {x = f} g) r p o e s =
+    let h = reply-number (check-ok f) r p e in
+    absurd (elim (or-cases (eqb r 5) (eqb r 7) o) [
+      | inl t ↦ let i = eqb→eq r 5 t in omega arith
+      | inr t ↦ let i = eqb→eq r 7 t in omega arith
+    ])
+
+pub first-wrong-state : FirstWrongState
+unfolding replyOf readFile
+first-wrong-state bytes p e s = first-wrong (reads-twin (itself bytes) full) 5 p tt e s .1
 
 pub no-order-fault : NoOrderFault
 unfolding replyOf readFile
-no-order-fault bytes = no-seven (reads-twin (itself bytes) full)
+no-order-fault bytes p e s =
+    let z : _≡_ {A = ℕ} 7 5 = first-wrong (reads-twin (itself bytes) full) 7 p tt e s .0 in
+    omega arith

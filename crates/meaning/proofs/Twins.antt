@@ -3,12 +3,11 @@
 use mathlib.Core.Path.{_≡_, refl}
 use Prim.Native.Nat.{ℕ, zero, suc, _+_, _<_}
 use native.Mathlib.Omega.{arith}
-use mathlib.Core.Bool.{Bool, not}
+use mathlib.Core.Bool.{Bool, not, _||_}
 use mathlib.Core.Option.{some}
 use mathlib.Core.List.{List, [], _∷_}
 use lib.ListN.{getElem?}
 use lib.Dec.{T, T-not, eqb}
-use Rattle.task.proofs.Tests.{same as same-test}
 use Rattle.meaning.specs.Result.{Result, refuse, found, _>>=_, need}
 use Rattle.meaning.specs.Bytes.{number}
 use Rattle.meaning.specs.Layout.{Kind, entry, entries}
@@ -19,13 +18,17 @@ use Rattle.meaning.proofs.LayoutFaults.{Within}
 use Rattle.meaning.proofs.Stages.{Stage, fault, fine, breach}
 use Rattle.meaning.proofs.Relisted.{setCount, after-suc, Free}
 
--- a refusal that is not 7 in a listed state
-abbrev pub NoOrder : List ℕ → ℕ → ℕ → Type 0
-NoOrder a r p = r ≡ 7 → InState a p → ⊥
+-- the refusals that a state by itself, or the order of states, could get
+abbrev pub OfStates : ℕ → Bool
+OfStates r = eqb r 5 || eqb r 7
+
+-- a refusal that is none of these in a listed state
+abbrev pub Elsewhere : List ℕ → ℕ → ℕ → Type 0
+Elsewhere a r p = T (OfStates r) → InState a p → ⊥
 
 -- Two readings: the same refusal; 5 in each at the first wrong state of the same set; or values that go together.
 pub data Twin (a b : List ℕ) {A : Type 0} (Good : A → A → Type 0) : Result A → Result A → Type 0 where
-  alike : {r p : ℕ} → NoOrder a r p → Twin a b Good (refuse r p) (refuse r p)
+  alike : {r p : ℕ} → Elsewhere a r p → Twin a b Good (refuse r p) (refuse r p)
   wrong : (e : ℕ) {p q : ℕ} → e < setCount a → getElem? (wrongIn a e) 0 ≡ some p → getElem? (wrongIn b e) 0 ≡ some q
       → Twin a b Good (refuse 5 p) (refuse 5 q)
   both : {x y : A} → Good x y → Twin a b Good (found x) (found y)
@@ -41,27 +44,27 @@ module _ {a b : List ℕ} where
   -- ---- parts that are the same
 
   pub same : {A : Type 0} {P : A → Type 0} {Good : A → A → Type 0} {x y : Result A}
-      → Yields (NoOrder a) P x → x ≡ y → ((u : A) → P u → Good u u) → Twin a b Good x y
+      → Yields (Elsewhere a) P x → x ≡ y → ((u : A) → P u → Good u u) → Twin a b Good x y
   same (refused n) e k = rw (← e) (alike n)
   same (given {a = u} p) e k = rw (← e) (both (k u p))
 
   pub same-then : {A B : Type 0} {P : A → Type 0} {Good : B → B → Type 0} {x y : Result A} {g h : A → Result B}
-      → Yields (NoOrder a) P x → x ≡ y → ((u : A) → P u → Twin a b Good (g u) (h u)) → Twin a b Good (x >>= g) (y >>= h)
+      → Yields (Elsewhere a) P x → x ≡ y → ((u : A) → P u → Twin a b Good (g u) (h u)) → Twin a b Good (x >>= g) (y >>= h)
   same-then {P = P} h e k = bind (same {Good = λ u v. (u ≡ v) × P u} h e (λ u p. (refl, p))) (λ u v q. rw (← q .0) (k u (q .1)))
 
   pub need-then : {B : Type 0} {Good : B → B → Type 0} (c : Bool) (r p : ℕ) {g h : Unit {0} → Result B}
-      → T (not (eqb r 7)) → ((u : Unit {0}) → T c → Twin a b Good (g u) (h u)) → Twin a b Good (need c r p >>= g) (need c r p >>= h)
-  need-then c r p n k = same-then (need-ok c r p (λ i. absurd (T-not (eqb r 7) n (same-test i)))) refl k
+      → T (not (OfStates r)) → ((u : Unit {0}) → T c → Twin a b Good (g u) (h u)) → Twin a b Good (need c r p >>= g) (need c r p >>= h)
+  need-then c r p n k = same-then (need-ok c r p (λ i. absurd (T-not (OfStates r) n i))) refl k
 
 -- a part with no state in it, its end included
 module _ (a : List ℕ) {lo hi : ℕ} (free : Free a lo (suc hi)) where
-  pub none-in : {A : Type 0} {P : A → Type 0} {x : Result A} → Yields (Within lo hi) P x → Yields (NoOrder a) P x
+  pub none-in : {A : Type 0} {P : A → Type 0} {x : Result A} → Yields (Within lo hi) P x → Yields (Elsewhere a) P x
   none-in h = widen (λ r q w _. free q (w .low) (let u = w .high in omega arith)) h
 
-  pub none-first : {A : Type 0} {P : A → Type 0} {x y : Result A} {bs : List ℕ} → Stage lo hi P x y bs → Yields (NoOrder a) P x
+  pub none-first : {A : Type 0} {P : A → Type 0} {x y : Result A} {bs : List ℕ} → Stage lo hi P x y bs → Yields (Elsewhere a) P x
   none-first (fault w f) = none-in (refused w)
   none-first (fine h) = given h
-  none-first (breach p l u h) = refused (λ (e : _≡_ {A = ℕ} 19 7). absurd (omega arith))
+  none-first (breach p l u h) = refused (λ e. absurd e)
 
 -- ---- entries
 

@@ -346,7 +346,13 @@ RoundOrderAlike = (from count : ℕ) → SameInAnyOrder round.Refused (λ bytes.
 abbrev pub AnswerOrderAlike : Type 0
 AnswerOrderAlike = (e s : ℕ) → SameInAnyOrder answer.Refused (λ bytes. answerOf bytes e s)
 
--- 7 no longer comes from an explicit set.
+-- In each file it is at the first state of the set, in the order of the file, that names a fact of n or above.
+abbrev pub FirstWrongState : Type 0
+FirstWrongState =
+    (bytes : List ℕ) (p : ℕ) → replyOf bytes ≡ Refused 5 p → InState bytes p
+    → (e : ℕ) × (e < number 2 bytes (stateSetCount bytes)) × (getElem? (wrongIn bytes e) 0 ≡ some p)
+
+-- 7 does not come from an explicit set.
 abbrev pub NoOrderFault : Type 0
 NoOrderFault = (bytes : List ℕ) (p : ℕ) → replyOf bytes ≡ Refused 7 p → InState bytes p → ⊥
 
