@@ -158,7 +158,7 @@ fn open_set(file: &File, set: StateSet) -> DraftSet {
         StateSet::Empty => DraftSet::Empty,
         StateSet::Init => DraftSet::Init,
         StateSet::Goal => DraftSet::Goal,
-        StateSet::Explicit(span) => DraftSet::Explicit(span.of(&file.states).to_vec()),
+        StateSet::Explicit(listed) => DraftSet::Explicit(listed.written.of(&file.states).to_vec()),
         StateSet::Horn(span) => DraftSet::Horn(span.of(&file.clauses).to_vec()),
         StateSet::TwoCnf(span) => DraftSet::TwoCnf(span.of(&file.clauses).to_vec()),
         StateSet::Complement(s) => DraftSet::Complement(s),

@@ -1,5 +1,5 @@
 //! Truth of statements with a listed set: go through the states of the smallest listed
-//! leaf and look for a counterexample.
+//! leaf, each once, and look for a counterexample.
 
 use crate::file::{marked_actions, File, StateSet};
 use crate::shape::{is_listed, Bracket, Leaves, Statement};
@@ -35,7 +35,7 @@ fn leads_outside<'a>(
 ) -> bool {
     let mut near = 0;
     let listed = match st.right.all().first() {
-        Some(StateSet::Explicit(span)) => span.of(&file.states),
+        Some(StateSet::Explicit(states)) => file.ascending(*states),
         _ => &[],
     };
     states.filter(|s| a.applies(**s)).any(|s| {
@@ -93,7 +93,7 @@ fn outside(file: &File, st: &Statement, state: State) -> bool {
 fn listing<'a>(file: &'a File, leaves: &Leaves) -> &'a [State] {
     let states = |set: &StateSet| match set {
         StateSet::Init => std::slice::from_ref(&file.task.init),
-        StateSet::Explicit(span) => span.of(&file.states),
+        StateSet::Explicit(states) => file.ascending(*states),
         _ => &[],
     };
     let listed = leaves.all().iter().filter(|set| is_listed(set)).map(states);

@@ -1,5 +1,5 @@
 //! A file in decoded form: task, action sets, state sets and steps. The states and
-//! clauses of all entries lie in two common lists; an entry holds its span of them.
+//! clauses of all entries lie in two common lists; an entry holds its spans of them.
 
 use crate::task::{State, Task};
 
@@ -58,13 +58,21 @@ impl Span {
     }
 }
 
+/// The states of an explicit set: as the file lists them, in any order and with repeats, and each once, ascending. Both are one
+/// span where the file lists them so.
+#[derive(Clone, Copy, Debug, PartialEq, Eq)]
+pub struct Listed {
+    pub written: Span,
+    pub ascending: Span,
+}
+
 /// A state set entry; references are entry numbers, in the order of the file.
 #[derive(Clone, Copy, Debug, PartialEq, Eq)]
 pub enum StateSet {
     Empty,
     Init,
     Goal,
-    Explicit(Span),
+    Explicit(Listed),
     Horn(Span),
     TwoCnf(Span),
     Complement(u16),
@@ -135,13 +143,41 @@ impl File {
         marks
     }
 
+    /// The states from here to the end of the common list as those of an explicit set; where they do not ascend, a copy that
+    /// does is put behind them.
+    pub fn listed(&mut self, from: usize) -> Listed {
+        let to = self.states.len();
+        let written = Span { from: from as u32, to: to as u32 };
+        if self.states[from..].is_sorted_by(|a, b| a < b) {
+            return Listed { written, ascending: written };
+        }
+        self.states.extend_from_within(from..);
+        self.states[to..].sort_unstable();
+        let mut end = to + 1;
+        for k in to + 1..self.states.len() {
+            let state = self.states[k];
+            if self.states[end - 1] != state {
+                self.states[end] = state;
+                end += 1;
+            }
+        }
+        self.states.truncate(end);
+        Listed { written, ascending: Span { from: to as u32, to: end as u32 } }
+    }
+
+    /// The states of an explicit set, each once, ascending.
+    #[inline]
+    pub fn ascending(&self, listed: Listed) -> &[State] {
+        listed.ascending.of(&self.states)
+    }
+
     /// Whether a state is in an entry of kinds 0 to 5; other kinds hold nothing here.
     #[inline]
     pub fn base_holds(&self, set: StateSet, state: State) -> bool {
         match set {
             StateSet::Init => state == self.task.init,
             StateSet::Goal => self.task.is_goal(state),
-            StateSet::Explicit(span) => span.of(&self.states).binary_search(&state).is_ok(),
+            StateSet::Explicit(listed) => self.ascending(listed).binary_search(&state).is_ok(),
             StateSet::Horn(span) | StateSet::TwoCnf(span) => {
                 span.of(&self.clauses).iter().all(|c| c.met_by(state))
             }

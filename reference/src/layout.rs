@@ -3,7 +3,7 @@
 //! then 5, 6, 7.
 
 use crate::fault::{Fault, Group, Item};
-use crate::file::{mark, ActionSet, ActionSetKind, Clause, File, Span, StateSet, Step};
+use crate::file::{mark, ActionSet, ActionSetKind, Clause, File, Listed, Span, StateSet, Step};
 use crate::task::Action;
 
 pub const MAX_BYTES: usize = 65_536;
@@ -227,24 +227,20 @@ impl<'a> Reader<'a> {
         Ok(())
     }
 
-    fn explicit(&mut self, body: Body) -> Read<Span> {
+    /// States in any order, with repeats.
+    fn explicit(&mut self, body: Body) -> Read<Listed> {
         let (states, length_field) = (body.bytes.len() / 8, Item::EntryLength(Group::StateSet, body.entry));
         within(states, self.limits.states, body.place - 3, length_field)?;
         let from = self.file.states.len();
         for (k, bytes) in body.bytes.chunks_exact(8).enumerate() {
             let state = word(bytes);
-            let broken = if state & self.barred != 0 {
-                5
-            } else if k > 0 && self.file.states[from + k - 1] >= state {
-                7
-            } else {
-                self.file.states.push(state);
-                continue;
-            };
-            let part = Item::Part(Group::StateSet, body.entry, "state", k as u16);
-            return Err(Fault::layout(broken, body.place + 8 * k, part));
+            if state & self.barred != 0 {
+                let part = Item::Part(Group::StateSet, body.entry, "state", k as u16);
+                return Err(Fault::layout(5, body.place + 8 * k, part));
+            }
+            self.file.states.push(state);
         }
-        Ok(Span { from: from as u32, to: self.file.states.len() as u32 })
+        Ok(self.file.listed(from))
     }
 
     fn clauses(&mut self, body: Body, lawful: fn(&Clause) -> bool) -> Read<Span> {

@@ -1,13 +1,15 @@
-//! The command line: check, whole, by the small limits or a round of it, and ask, seeded cases and their replies, the text form
-//! with names, graphs, and a caller's own rule numbers.
+//! The command line: check, whole, by the small limits or a round of it, and ask, seeded cases, their replies and pairs of these, the
+//! text form with names, graphs, and a caller's own rule numbers.
 
-use std::io::{self, BufWriter, Read, Write};
+use std::io::{self, BufRead, BufWriter, Read, Write};
 use std::process::ExitCode;
 
 use reference::draw::{draw, Graph};
 use reference::generate::limits::workload;
+use reference::generate::listed::listed;
 use reference::generate::numbered::numbered;
 use reference::generate::random::Random;
+use reference::generate::relisted::{alike, relisted};
 use reference::generate::rounds::rounds;
 use reference::generate::small::small;
 use reference::generate::{cases, damaged, Case};
@@ -18,7 +20,8 @@ use reference::{
 };
 
 const USAGE: &str = "usage: reference check [--numbers LIST | --small] FILE | round FILE FROM COUNT | ask FILE ENTRY STATE | gen SEED COUNT | \
-numbered SEED COUNT | rounds SEED COUNT | small SEED COUNT | damaged FILE SEED COUNT | replies | records | assemble TEXTFILE | names TEXTFILE | show [--numbers LIST] FILE [NAMES] | \
+numbered SEED COUNT | rounds SEED COUNT | small SEED COUNT | listed SEED COUNT | relisted SEED COUNT | damaged FILE SEED COUNT | \
+replies | records | alike CASES REPLIES | assemble TEXTFILE | names TEXTFILE | show [--numbers LIST] FILE [NAMES] | \
 explain [--numbers LIST | --small] FILE [NAMES] | draw FILE [table|steps] [NAMES] | cost FILE | renumber LIST FILE | workload NUMBER SEED   \
 (FILE may be - for standard input; LIST is numbers with commas or spaces between, or a file of bytes)";
 
@@ -111,19 +114,22 @@ fn run(words: &[&str]) -> Result<(), Stop> {
         ["numbered", seed, count] => write_lines(&mut out, numbered(number(seed)?, number(count)?))?,
         ["rounds", seed, count] => write_lines(&mut out, rounds(number(seed)?, number(count)?))?,
         ["small", seed, count] => write_lines(&mut out, small(number(seed)?, number(count)?))?,
+        ["listed", seed, count] => write_lines(&mut out, listed(number(seed)?, number(count)?))?,
+        ["relisted", seed, count] => write_lines(&mut out, relisted(number(seed)?, number(count)?))?,
         ["damaged", file, seed, count] => {
             write_lines(&mut out, damaged(&read(file)?, number(seed)?, number(count)?))?;
         }
         ["replies"] => {
-            for case in lines() {
+            for case in cases_of(io::stdin().lock()) {
                 writeln!(out, "{}", case?.reply())?;
             }
         }
         ["records"] => {
-            for case in lines() {
+            for case in cases_of(io::stdin().lock()) {
                 out.write_all(&case?.record())?;
             }
         }
+        ["alike", cases, replies] => compare_pairs(&read(cases)?, &read_text(replies)?)?,
         ["assemble", file] => {
             out.write_all(&assemble::assemble(&read_text(file)?).map_err(Stop::Message)?)?;
         }
@@ -140,7 +146,7 @@ fn run(words: &[&str]) -> Result<(), Stop> {
         }
         ["workload", which, seed] => {
             let which = number(which)?;
-            if !(1..=4).contains(&which) {
+            if !(1..=5).contains(&which) {
                 return Err(Stop::Usage);
             }
             let draft = workload(&mut Random::new(number(seed)?), which as usize);
@@ -264,10 +270,29 @@ fn drawn(file: &str, rest: &[&str]) -> Result<String, Stop> {
     draw(&bytes, &names, graph).map_err(Stop::Message)
 }
 
-/// The cases on standard input, one a line.
-fn lines() -> impl Iterator<Item = Result<Case, Stop>> {
-    io::stdin().lines().enumerate().map(|(number, line)| {
+/// The cases, one a line.
+fn cases_of(lines: impl BufRead) -> impl Iterator<Item = Result<Case, Stop>> {
+    lines.lines().enumerate().map(|(number, line)| {
         let case = Case::parse(&line?);
         case.ok_or(Stop::Message(format!("line {}: no case", number + 1)))
     })
+}
+
+/// Each two cases are a pair that `relisted` wrote; the first one whose replies are not alike is told.
+fn compare_pairs(cases: &[u8], replies: &str) -> Result<(), Stop> {
+    let cases = cases_of(cases).collect::<Result<Vec<Case>, Stop>>()?;
+    let replies: Vec<&str> = replies.lines().collect();
+    if cases.len() != replies.len() || cases.len() % 2 != 0 {
+        let counts = format!("{} cases and {} replies are no pairs", cases.len(), replies.len());
+        return Err(Stop::Message(counts));
+    }
+    for (k, (pair, said)) in cases.chunks_exact(2).zip(replies.chunks_exact(2)).enumerate() {
+        let [first, second] = [said[0], said[1]];
+        if !alike([&pair[0], &pair[1]], [first, second]) {
+            let lines = format!("lines {} and {}", 2 * k + 1, 2 * k + 2);
+            let differ = "their files differ in the order of listed states alone";
+            return Err(Stop::Message(format!("{lines}: '{first}' and '{second}', where {differ}")));
+        }
+    }
+    Ok(())
 }

@@ -106,13 +106,45 @@ fn cases_and_their_replies() {
     assert_eq!(printed(&["numbered", "4", "60"], b"").lines().count(), 60);
     assert_eq!(printed(&["rounds", "4", "60"], b"").lines().count(), 60);
     assert_eq!(printed(&["small", "4", "60"], b"").lines().count(), 60);
+    assert_eq!(printed(&["listed", "4", "60"], b"").lines().count(), 60);
     assert_eq!(run(&["replies"], b"nonsense\n").status.code(), Some(1));
+}
+
+/// Pairs of files that differ in the order of listed states, and replies that are alike or not.
+#[test]
+fn pairs_and_their_replies() {
+    let cases = printed(&["relisted", "4", "60"], b"");
+    assert_eq!(cases.lines().count(), 120);
+    let replies = printed(&["replies"], cases.as_bytes());
+    let room = std::env::temp_dir().join(format!("pairs-{}", std::process::id()));
+    std::fs::write(&room, &cases).expect("a file");
+    let path = room.to_str().expect("a plain name");
+    assert_eq!(printed(&["alike", path, "-"], replies.as_bytes()), "");
+    let mut lines: Vec<&str> = replies.lines().collect();
+    for (changed, told) in [(0, "lines 1 and 2: "), (7, "lines 7 and 8: "), (119, "lines 119 and 120: ")] {
+        let reply = std::mem::replace(&mut lines[changed], "refused 11 1000");
+        let (status, said) = stopped(&["alike", path, "-"], lines.join("\n").as_bytes());
+        assert_eq!(status, Some(1));
+        assert!(said.starts_with(&format!("reference: {told}'")), "{said}");
+        assert!(said.contains("'refused 11 1000'") && said.contains(&format!("'{reply}'")), "{said}");
+        lines[changed] = reply;
+    }
+    for count in [0, 118, 119] {
+        let (status, said) = stopped(&["alike", path, "-"], lines[..count].join("\n").as_bytes());
+        let told = format!("reference: 120 cases and {count} replies are no pairs\n");
+        assert_eq!((status, said), (Some(1), told));
+    }
+    std::fs::write(&room, cases.lines().next().expect("a case")).expect("a file");
+    assert_eq!(stopped(&["alike", path, "-"], b"accepted\n").0, Some(1));
+    std::fs::write(&room, "nonsense\n").expect("a file");
+    assert_eq!(stopped(&["alike", path, "-"], b""), (Some(1), "reference: line 1: no case\n".into()));
+    std::fs::remove_file(&room).expect("the file goes");
 }
 
 #[test]
 fn wrong_calls_print_the_usage_and_end_with_2() {
     let cert = sample("sample.cert");
-    let wrong: [&[&str]; 26] = [
+    let wrong: [&[&str]; 30] = [
         &[],
         &["check"],
         &["check", &cert, "more"],
@@ -130,6 +162,9 @@ fn wrong_calls_print_the_usage_and_end_with_2() {
         &["numbered", "1"],
         &["rounds", "1"],
         &["small", "1"],
+        &["listed", "1"],
+        &["relisted", "1"],
+        &["alike", &cert],
         &["round", &cert, "0"],
         &["round", &cert, "0", "18446744073709551616"],
         &["round", "--numbers", "1", &cert, "0", "1"],
@@ -137,7 +172,8 @@ fn wrong_calls_print_the_usage_and_end_with_2() {
         &["ask", &cert, "-1", "0"],
         &["gen", "1"],
         &["gen", "1", "many"],
-        &["workload", "5", "1"],
+        &["workload", "0", "1"],
+        &["workload", "6", "1"],
         &["unknown"],
     ];
     for arguments in wrong {

@@ -1,13 +1,15 @@
 //! The cases that stand in crates/vectors, so that the proved checker is held to them with no generator at hand: their replies are
-//! those given today, and every reply and rule is among them.
+//! those given today, every reply and rule is among them, and so are explicit sets in any order with repeats.
 
 use std::collections::BTreeSet;
 use std::path::PathBuf;
 
 use reference::fault::{Cause, Fault, Item};
+use reference::generate::relisted::bodies;
 use reference::generate::{Call, Case};
 use reference::layout::{self, Limits};
 use reference::steps::check_step;
+use reference::{check, Reply};
 
 fn read(name: &str) -> Vec<u8> {
     let folder = PathBuf::from(env!("CARGO_MANIFEST_DIR")).join("../crates/vectors");
@@ -47,6 +49,34 @@ fn their_replies_are_those_given_today() {
     for (k, (case, reply)) in cases.iter().zip(replies.lines()).enumerate() {
         assert_eq!(case.reply(), reply, "case {}: {}", k + 1, case.line());
     }
+}
+
+/// Sets whose states do not ascend, in files that are accepted, refused with 5 there, or refused by a step; and as many states as there
+/// may be, and one more, with repeats.
+#[test]
+fn states_in_any_order_are_among_them() {
+    let (mut accepted, mut bad, mut untrue) = (0, 0, 0);
+    let mut limits = BTreeSet::new();
+    for case in cases(&read("stdin")) {
+        for body in bodies(&case.bytes) {
+            let states: Vec<&[u8]> = case.bytes[body.clone()].chunks(8).collect();
+            let repeats = BTreeSet::from_iter(states.iter().copied()).len() < states.len();
+            if states.is_sorted() && !repeats {
+                continue;
+            }
+            match check(&case.bytes) {
+                Reply::Accepted => accepted += 1,
+                Reply::Refused { number: 5, place } if body.contains(&(place as usize)) => bad += 1,
+                Reply::Refused { number: 8..=11, .. } => untrue += 1,
+                _ => (),
+            }
+            if repeats && [512, 513, 4096, 4097].contains(&states.len()) {
+                limits.insert(states.len());
+            }
+        }
+    }
+    assert!(accepted >= 100 && bad >= 5 && untrue >= 100, "{accepted} {bad} {untrue}");
+    assert_eq!(limits, [512, 513, 4096, 4097].into());
 }
 
 #[test]

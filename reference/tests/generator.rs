@@ -6,7 +6,9 @@ use std::collections::BTreeMap;
 
 use common::kind;
 use reference::draft::{Draft, DraftActions};
+use reference::generate::listed::listed;
 use reference::generate::numbered::numbered;
+use reference::generate::relisted::relisted;
 use reference::generate::rounds::rounds;
 use reference::generate::small::small;
 use reference::generate::{cases, Call, Case};
@@ -110,11 +112,12 @@ fn the_cases_of_seed_1_are_pinned() {
     assert_eq!(hash, PINNED, "{hash:#x}");
 }
 
-const PINNED: u64 = 0x356F_DC59_DF30_15FA;
+const PINNED: u64 = 0x0CE9_070E_767D_DABA;
 
 #[test]
 fn the_line_form_reads_back() {
-    for case in cases(9, 500).chain(numbered(9, 200)).chain(rounds(9, 200)).chain(small(9, 200)) {
+    let others = numbered(9, 200).chain(rounds(9, 200)).chain(small(9, 200)).chain(listed(9, 200));
+    for case in cases(9, 500).chain(others).chain(relisted(9, 50)) {
         assert_eq!(Case::parse(&case.line()), Some(case));
     }
     let empty = Case { call: Call::Check, bytes: Vec::new() };

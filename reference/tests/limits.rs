@@ -177,7 +177,7 @@ fn doubling_entries_are_answered_at_once() {
 
 #[test]
 fn workloads_are_accepted() {
-    for number in 1..=4 {
+    for number in 1..=5 {
         let draft = workload(&mut Random::new(7), number);
         let bytes = draft.encode();
         let start = Instant::now();
@@ -186,7 +186,13 @@ fn workloads_are_accepted() {
         match number {
             1 => assert_eq!(draft.actions.len(), 256),
             2 | 3 => assert!(draft.facts == 64 && draft.actions.len() == 256),
-            _ => assert_eq!((draft.steps.len(), draft.state_sets.len()), (2048, 512)),
+            4 => assert_eq!((draft.steps.len(), draft.state_sets.len()), (2048, 512)),
+            _ => {
+                let DraftSet::Explicit(states) = &draft.state_sets[3] else { panic!("no listed states") };
+                let different = BTreeSet::from_iter(states);
+                assert_eq!((states.len(), different.len(), draft.actions.len()), (4083, 3712, 256));
+                assert!(!states.is_sorted());
+            }
         }
     }
 }

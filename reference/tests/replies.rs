@@ -97,7 +97,6 @@ fn reply_5_facts_outside_the_task() {
     // Both masks pass 5 before the clause is looked at; the first faulty item decides.
     assert_eq!(horn(vec![clause(3, 4)]), "refused 5 99");
     assert_eq!(horn(vec![clause(3, 0), clause(4, 0)]), "refused 7 91");
-    assert_eq!(reply(|d| d.state_sets[3] = DraftSet::Explicit(vec![1, 0, 4])), "refused 7 99");
 }
 
 #[test]
@@ -115,7 +114,6 @@ fn reply_6_numbers_not_allowed() {
 fn reply_7_orders_and_clauses() {
     assert_eq!(reply(|d| d.action_sets[0] = DraftActions::List(vec![1, 0])), "refused 7 79");
     assert_eq!(reply(|d| d.action_sets[0] = DraftActions::List(vec![1, 1])), "refused 7 79");
-    assert_eq!(reply(|d| d.state_sets[3] = DraftSet::Explicit(vec![0, 2, 2])), "refused 7 107");
     assert_eq!(
         reply(|d| d.state_sets[3] = DraftSet::Horn(vec![clause(0, 3), clause(3, 0)])),
         "refused 7 107"

@@ -101,6 +101,12 @@ fn size() {
     assert_eq!(both(&full_file(0)), [refused(19, 0), ACCEPTED.into()]);
 }
 
+/// Breaks the first clause of the set behind the sample's, which is a Horn set.
+fn two_positive_facts(d: &mut Draft) {
+    let DraftSet::Horn(clauses) = &mut d.state_sets[7] else { panic!("no clauses") };
+    clauses[0].positive = 3;
+}
+
 /// After 1, whichever of its two checks gives it, and before the version and all that follows.
 #[test]
 fn order_at_the_size() {
@@ -121,7 +127,7 @@ fn order_at_the_size() {
         (|d| d.facts = 0, 4, 5),
         (|d| d.goal = 4, 5, 14),
         (|d| d.state_sets[5] = DraftSet::Union(5, 0), 6, 125),
-        (|d| d.state_sets[3] = DraftSet::Explicit(vec![0, 2, 1]), 7, LIST + 3 + 16),
+        (two_positive_facts, 7, COUNT + 3),
     ];
     for (change, number, place) in changes {
         for (bytes, expected) in [(16_384, refused(number, place)), (16_385, refused(19, 0))] {
@@ -179,14 +185,14 @@ fn states_of_each_set_as_written() {
     assert_eq!(two(514, 600), refused(19, first));
     let repeated = |count| {
         let mut d = with_states(3);
-        d.state_sets[3] = DraftSet::Explicit(vec![1; count]);
+        d.state_sets[3] = DraftSet::Explicit([2, 0, 1].into_iter().cycle().take(count).collect());
         both(&d.encode())
     };
-    assert_eq!(repeated(512), [refused(7, LIST + 11), refused(7, LIST + 11)]);
-    assert_eq!(repeated(513), [refused(19, LIST), refused(7, LIST + 11)]);
+    assert_eq!([3, 511, 512].map(repeated), [[ACCEPTED; 2]; 3]);
+    assert_eq!(repeated(513), [refused(19, LIST), ACCEPTED.into()]);
 }
 
-/// At the entry: past the end (3), kind (4), length (4), 19, then its states (5, 7).
+/// At the entry: past the end (3), kind (4), length (4), 19, then its states (5).
 #[test]
 fn order_at_a_set() {
     let file = with_states(513).encode();
@@ -204,15 +210,15 @@ fn order_at_a_set() {
         let file = stated(file.clone(), LIST, unfit);
         assert_eq!(both(&file), [refused(4, LIST), refused(4, LIST)], "{unfit}");
     }
-    for (k, state, number) in [(0, 1 << 14, 5), (512, 1 << 63, 5), (1, 0, 7), (512, 511, 7)] {
-        for (count, expected) in [(512, number), (513, 19)] {
+    for (k, state) in [(0, 1 << 14), (1, 1 << 14), (512, 1 << 63)] {
+        for (count, number) in [(512, 5), (513, 19)] {
             let mut d = with_states(count);
             let k = k.min(count - 1);
             let DraftSet::Explicit(states) = &mut d.state_sets[3] else { panic!("a list") };
-            states[k] = if number == 7 { states[k - 1] } else { state };
+            states[k] = state;
             let place = LIST + 3 + 8 * k;
-            let small = refused(expected, if expected == 19 { LIST } else { place });
-            assert_eq!(both(&d.encode()), [small, refused(number, place)], "{k} {count}");
+            let small = refused(number, if number == 19 { LIST } else { place });
+            assert_eq!(both(&d.encode()), [small, refused(5, place)], "{k} {count}");
         }
     }
 }
@@ -273,10 +279,9 @@ fn front_to_back() {
         |d| d.action_sets.push(DraftActions::List(vec![1, 1])),
         |d| d.state_sets[2] = DraftSet::Intersection(0, 2),
     ];
-    let behind: [Change; 7] = [
+    let behind: [Change; 6] = [
         |d| d.state_sets[4] = DraftSet::Progression(4, 0),
         |d| d.state_sets[4] = DraftSet::Progression(3, 1),
-        |d| d.state_sets.push(DraftSet::Explicit(vec![2, 1])),
         |d| d.state_sets.push(DraftSet::Explicit(vec![1 << 14])),
         |d| d.state_sets.push(DraftSet::Horn(vec![Clause { positive: 3, negative: 0 }])),
         |d| d.state_sets.push(DraftSet::TwoCnf(vec![Clause { positive: 0, negative: 7 }])),
@@ -518,7 +523,7 @@ fn summary(seed: u64, count: u64) -> Summary {
 
 #[test]
 fn the_generator_reaches_every_outcome() {
-    let summary = summary(44, 6000);
+    let summary = summary(48, 6000);
     for number in (1..=12).chain([19]) {
         summary.at_least(60, &number.to_string());
     }

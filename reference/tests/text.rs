@@ -3,7 +3,7 @@
 use std::path::{Path, PathBuf};
 
 use reference::assemble::assemble;
-use reference::draft::{mend_length, sample, Draft, DraftSet};
+use reference::draft::{mend_length, sample, Draft, DraftActions, DraftSet};
 use reference::generate::cases;
 use reference::generate::random::Random;
 use reference::pattern::{parse, Claim};
@@ -66,8 +66,8 @@ fn first_line(change: impl FnOnce(&mut Draft)) -> String {
 fn refusals_in_words() {
     assert_eq!(first_line(|_| ()), "# accepted");
     assert_eq!(
-        first_line(|d| d.state_sets[3] = DraftSet::Explicit(vec![0, 2, 1])),
-        "# refused 7 at byte 107: state set 3, state 2 is not above the one before it"
+        first_line(|d| d.action_sets[0] = DraftActions::List(vec![1, 0])),
+        "# refused 7 at byte 79: action set 0, action 1 is not above the one before it"
     );
     assert_eq!(
         first_line(|d| d.state_sets[5] = DraftSet::Union(0, 3)),

@@ -86,7 +86,7 @@ impl<'a> Statement<'a> {
         let listed = self.before.iter().filter_map(|set| match set {
             StateSet::Empty => Some(&[][..]),
             StateSet::Init => Some(std::slice::from_ref(&self.file.task.init)),
-            StateSet::Explicit(span) => Some(span.of(&self.file.states)),
+            StateSet::Explicit(states) => Some(self.file.ascending(*states)),
             StateSet::Goal | StateSet::Horn(_) | StateSet::TwoCnf(_) => None,
             // No leaf is of these kinds.
             StateSet::Complement(_) | StateSet::Intersection(..) | StateSet::Union(..) => None,

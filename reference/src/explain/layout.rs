@@ -14,7 +14,7 @@ use crate::layout::{
 pub enum Allowed {
     /// A number in this range; the range is empty where no number will do.
     Numbers(Range<u64>),
-    /// A number greater than the one before it.
+    /// An action number greater than the one before it in the list.
     Above(u64),
     /// A mask or state of facts below this number.
     FactsBelow(u8),

@@ -1,6 +1,7 @@
 //! Correct applications of single rules and random basic statements, added to a file
 //! under construction.
 
+use std::collections::BTreeSet;
 use std::sync::OnceLock;
 
 use crate::file::{ActionSetKind, Clause, Judgement, StateSet, Step};
@@ -25,10 +26,8 @@ pub fn add_pool(b: &mut Builder) {
         let method = b.random.pick(&[Method::Explicit, Method::Horn, Method::TwoCnf]);
         let size = b.random.between(0, 3);
         if method == Method::Explicit {
-            let mut states: Vec<u64> = (0..2 * size).map(|_| b.random.mask(facts, 1)).collect();
-            states.sort_unstable();
-            states.dedup();
-            b.explicit(states);
+            let states: BTreeSet<u64> = (0..2 * size).map(|_| b.random.mask(facts, 1)).collect();
+            b.listed(states);
         } else {
             let mut clauses: Vec<_> = (0..size).map(|_| tasks::clause(b.random, method, facts)).collect();
             if method == Method::TwoCnf && b.random.chance(30) {

@@ -2,6 +2,7 @@
 //! proofs of wanted judgements.
 
 use crate::file::{ActionSet, ActionSetKind, Clause, File, Judgement, Span, StateSet, Step};
+use crate::generate::listed::disorder;
 use crate::generate::random::Random;
 use crate::layout::{MAX_STATE_SETS, MAX_STEPS};
 use crate::steps::check_step;
@@ -70,13 +71,20 @@ impl<'a> Builder<'a> {
         self.actions(ActionSetKind::Union(a, b), marks)
     }
 
-    /// An explicit set of ascending states.
+    /// An explicit set of states in this order.
     pub fn explicit(&mut self, states: impl IntoIterator<Item = State>) -> u16 {
-        let from = self.file.states.len() as u32;
+        let from = self.file.states.len();
         self.file.states.extend(states);
-        let span = Span { from, to: self.file.states.len() as u32 };
-        self.file.state_sets.push(StateSet::Explicit(span));
+        let listed = self.file.listed(from);
+        self.file.state_sets.push(StateSet::Explicit(listed));
         (self.file.state_sets.len() - 1) as u16
+    }
+
+    /// An explicit set of these states, as they are or in any order with repeats.
+    pub fn listed(&mut self, states: impl IntoIterator<Item = State>) -> u16 {
+        let mut states = states.into_iter().collect();
+        disorder(self.random, &mut states);
+        self.explicit(states)
     }
 
     /// A Horn or two-literal set.

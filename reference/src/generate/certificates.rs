@@ -39,18 +39,19 @@ pub fn random(random: &mut Random) -> (Builder<'_>, Ending) {
     }
 }
 
+/// The kind of a set of clauses.
 pub fn kind(method: Method) -> fn(Span) -> StateSet {
     match method {
-        Method::Horn => StateSet::Horn,
         Method::TwoCnf => StateSet::TwoCnf,
-        Method::Explicit => StateSet::Explicit,
+        _ => StateSet::Horn,
     }
 }
 
-fn explicit(random: &mut Random, n: u8) -> (Builder<'_>, Ending) {
+/// Over the states within reach.
+pub fn explicit(random: &mut Random, n: u8) -> (Builder<'_>, Ending) {
     let (task, states) = tasks::reachable(random, n, 60);
     let mut b = Builder::new(task, random);
-    let s = b.explicit(states.iter().copied());
+    let s = b.listed(states.iter().copied());
     let ending = match b.random.below(4) {
         0 | 1 => by_pg(&mut b, s),
         2 => by_pi(&mut b, s),
@@ -127,7 +128,7 @@ fn by_regression_beside(b: &mut Builder, r: u16, within: &BTreeSet<State>) -> En
     let outside = outside_dead(b, r, not_r, none);
     let facts = b.file.task.all_facts();
     let picks: BTreeSet<State> = (0..6).map(|_| b.random.mask(facts, 1)).collect();
-    let s = b.explicit(picks.into_iter().filter(|state| !within.contains(state)));
+    let s = b.listed(picks.into_iter().filter(|state| !within.contains(state)));
     let closed = closed(b, s, false, not_r);
     let not_s = b.not(s);
     if b.random.chance(50) {

@@ -1,10 +1,12 @@
-//! Files at and just over the limits of the format, and the four workloads on which
+//! Files at and just over the limits of the format, and the five workloads on which
 //! checkers are timed.
 
 use crate::draft::{sample, step, Draft, DraftActions, DraftSet};
 use crate::file::Clause;
 use crate::generate::builder::Builder;
 use crate::generate::certificates::{by_pg, finish, kind};
+use crate::generate::found;
+use crate::generate::listed::{reorder, repeat};
 use crate::generate::random::Random;
 use crate::layout::{
     MAX_ACTIONS, MAX_ACTION_SETS, MAX_BYTES, MAX_CLAUSES, MAX_STATES, MAX_STATE_SETS, MAX_STEPS,
@@ -82,10 +84,14 @@ fn many_steps(over: usize) -> Vec<u8> {
     d.encode()
 }
 
+/// As many listed states as there may be, or one of them twice; in any order or ascending.
 fn many_states(random: &mut Random, over: usize) -> Vec<u8> {
     let mut d = listed_cube(random, 12, 3);
-    if let (1, DraftSet::Explicit(states)) = (over, &mut d.state_sets[3]) {
-        states.insert(0, 0);
+    if let DraftSet::Explicit(states) = &mut d.state_sets[3] {
+        repeat(random, states, over);
+        if random.chance(50) {
+            reorder(random, states);
+        }
     }
     d.encode()
 }
@@ -159,42 +165,76 @@ fn deep_tree(random: &mut Random, over: usize) -> Vec<u8> {
 }
 
 /// The timed workloads: 1 many listed states and actions, 2 a large Horn set, 3 a large
-/// two-literal set, 4 many rule steps over many entries. All are accepted.
+/// two-literal set, 4 many rule steps over many entries, 5 states in the order found. All are
+/// accepted.
 pub fn workload(random: &mut Random, number: usize) -> Draft {
     match number {
         1 => listed_cube(random, 12, MAX_ACTIONS),
         2 => large_clauses(random, Method::Horn),
         3 => large_clauses(random, Method::TwoCnf),
-        _ => many_rules(random, MAX_STATE_SETS, MAX_STEPS),
+        4 => many_rules(random, MAX_STATE_SETS, MAX_STEPS),
+        _ => found::cube(random),
     }
 }
 
 /// All states over `free` of 64 facts, the others fixed, in the sample's form.
 pub fn listed_cube(random: &mut Random, free: usize, actions: usize) -> Draft {
-    let mut cube = 0u64;
-    while cube.count_ones() < free as u32 {
-        cube |= random.bit(!cube);
-    }
-    let fixed = random.mask(!cube, 1);
-    let goal = random.bit(!cube & !fixed) | random.mask(cube, 2);
-    let mut states = vec![fixed];
-    for bit in (0..64).map(|f| 1u64 << f).filter(|bit| cube & bit != 0) {
-        let more: Vec<u64> = states.iter().map(|s| s | bit).collect();
-        states.extend(more);
-    }
-    states.sort_unstable();
-    states.truncate(MAX_STATES);
+    let cube = Cube::new(random, free);
+    let states = cube.states();
     let init = random.pick(&states);
-    let action = |random: &mut Random| {
-        let (pre, add) = (random.mask(cube | fixed, 4), random.mask(cube, 2));
-        Action { pre, add, del: random.mask(cube, 2) }
-    };
-    let actions = (0..actions).map(|_| action(random)).collect();
-    let mut b = Builder::new(Task { facts: 64, init, goal, actions }, random);
-    let s = b.explicit(states);
-    let ending = by_pg(&mut b, s);
-    finish(&mut b, ending);
-    Draft::of(&b.file)
+    let actions = (0..actions).map(|_| cube.action(random)).collect();
+    cube.certificate(random, init, actions, states)
+}
+
+/// Some of 64 facts are free and the others fixed; the goal has one that is fixed and off.
+pub struct Cube {
+    pub free: u64,
+    fixed: u64,
+    goal: u64,
+}
+
+impl Cube {
+    pub fn new(random: &mut Random, facts: usize) -> Cube {
+        let mut free = 0u64;
+        while free.count_ones() < facts as u32 {
+            free |= random.bit(!free);
+        }
+        let fixed = random.mask(!free, 1);
+        Cube { free, fixed, goal: random.bit(!free & !fixed) | random.mask(free, 2) }
+    }
+
+    /// All states, ascending, as many as a set may hold.
+    pub fn states(&self) -> Vec<u64> {
+        let mut states = vec![self.fixed];
+        for bit in (0..64).map(|f| 1u64 << f).filter(|bit| self.free & bit != 0) {
+            let more: Vec<u64> = states.iter().map(|s| s | bit).collect();
+            states.extend(more);
+        }
+        states.sort_unstable();
+        states.truncate(MAX_STATES);
+        states
+    }
+
+    /// An action that leads from state to state.
+    pub fn action(&self, random: &mut Random) -> Action {
+        let (pre, add) = (random.mask(self.free | self.fixed, 4), random.mask(self.free, 2));
+        Action { pre, add, del: random.mask(self.free, 2) }
+    }
+
+    /// The sample's form, with these states in its set.
+    pub fn certificate(
+        self,
+        random: &mut Random,
+        init: u64,
+        actions: Vec<Action>,
+        states: Vec<u64>,
+    ) -> Draft {
+        let mut b = Builder::new(Task { facts: 64, init, goal: self.goal, actions }, random);
+        let s = b.explicit(states);
+        let ending = by_pg(&mut b, s);
+        finish(&mut b, ending);
+        Draft::of(&b.file)
+    }
 }
 
 /// Groups of facts whose pairs number 256 in all.

@@ -4,11 +4,14 @@
 pub mod applications;
 pub mod builder;
 pub mod certificates;
+pub mod found;
 pub mod growth;
 pub mod limits;
+pub mod listed;
 pub mod mutate;
 pub mod numbered;
 pub mod random;
+pub mod relisted;
 pub mod rounds;
 pub mod small;
 pub mod tasks;

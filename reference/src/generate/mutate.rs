@@ -3,19 +3,20 @@
 
 use crate::draft::{mend_length, Draft, DraftActions, DraftSet};
 use crate::file::{Clause, Step};
+use crate::generate::limits::shuffle;
 use crate::generate::random::Random;
 
 /// Changes one thing in the draft.
 pub fn draft(random: &mut Random, d: &mut Draft) {
-    match random.below(26) {
+    match random.below(27) {
         0..=8 => step(random, d),
         9 | 10 => step_list(random, d),
         11..=13 => reference(random, d),
         14 | 15 => kind(random, d),
         16..=18 => content(random, d),
-        19 => action_set(random, d),
-        20 => twin(random, d),
-        21 | 22 => mask(random, d),
+        19 | 20 => action_set(random, d),
+        21 => twin(random, d),
+        22 | 23 => mask(random, d),
         _ => head(random, d),
     }
 }
@@ -99,7 +100,8 @@ fn reference(random: &mut Random, d: &mut Draft) {
     }
 }
 
-fn choose<T>(random: &mut Random, list: &[T], wanted: impl Fn(&T) -> bool) -> Option<usize> {
+/// The number of one of the items that are wanted, where there are any.
+pub fn choose<T>(random: &mut Random, list: &[T], wanted: impl Fn(&T) -> bool) -> Option<usize> {
     let places: Vec<usize> = (0..list.len()).filter(|k| wanted(&list[*k])).collect();
     (!places.is_empty()).then(|| random.pick(&places))
 }
@@ -175,6 +177,7 @@ fn items<T: Copy>(random: &mut Random, list: &mut Vec<T>, change: impl Fn(&mut T
     }
 }
 
+/// A list of actions changed or put out of order, a union changed, or a list of all actions instead of their kind.
 fn action_set(random: &mut Random, d: &mut Draft) {
     if d.action_sets.is_empty() {
         return;
@@ -190,7 +193,13 @@ fn action_set(random: &mut Random, d: &mut Draft) {
             }
         }
         DraftActions::List(list) => items(random, list, |a| *a = a.wrapping_add(1), actions as u16),
-        all => *all = DraftActions::List((0..actions as u16).collect()),
+        all => {
+            let mut list: Vec<u16> = (0..actions as u16).collect();
+            if random.chance(40) {
+                shuffle(random, &mut list);
+            }
+            *all = DraftActions::List(list);
+        }
     }
 }
 
@@ -200,6 +209,11 @@ fn twin(random: &mut Random, d: &mut Draft) {
         return;
     }
     let first = random.below(d.state_sets.len());
+    twin_of(random, d, first);
+}
+
+/// A second entry of this one's content, named by a step instead of it where one names it: its number.
+pub fn twin_of(random: &mut Random, d: &mut Draft, first: usize) -> usize {
     let number = d.state_sets.len() as u16;
     d.state_sets.push(d.state_sets[first].clone());
     let named = |step: &Step| step.kind < 2 && step.entries.contains(&(first as u16));
@@ -208,6 +222,7 @@ fn twin(random: &mut Random, d: &mut Draft) {
         let place = entries.iter().position(|entry| *entry == first as u16);
         entries[place.unwrap_or(0)] = number;
     }
+    number as usize
 }
 
 fn mask(random: &mut Random, d: &mut Draft) {

@@ -12,7 +12,7 @@ pub fn numbered(seed: u64, count: u64) -> impl Iterator<Item = Case> {
     (0..count).map(move |index| numbered_case(&mut Random::for_case(seed, index)))
 }
 
-fn numbered_case(random: &mut Random) -> Case {
+pub(super) fn numbered_case(random: &mut Random) -> Case {
     let list = lawful(random);
     let mut bytes = plain_file(random);
     match random.below(100) {

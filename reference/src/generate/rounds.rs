@@ -16,7 +16,7 @@ pub fn rounds(seed: u64, count: u64) -> impl Iterator<Item = Case> {
     (0..count).map(move |index| round_case(&mut Random::for_case(seed, index)))
 }
 
-fn round_case(random: &mut Random) -> Case {
+pub(super) fn round_case(random: &mut Random) -> Case {
     let (bytes, from) = match random.below(100) {
         0..=57 => {
             let bytes = plain_file(random);

@@ -5,6 +5,7 @@
 use crate::draft::{sample, Draft, DraftActions, DraftSet};
 use crate::file::Clause;
 use crate::generate::limits::{fill, many_rules};
+use crate::generate::listed::{reorder, repeat};
 use crate::generate::random::Random;
 use crate::generate::{certificate, mutate, plain_file, Call, Case};
 use crate::layout::{Limits, MAX_CLAUSES, MAX_STATE_SETS};
@@ -17,7 +18,7 @@ pub fn small(seed: u64, count: u64) -> impl Iterator<Item = Case> {
     (0..count).map(move |index| small_case(&mut Random::for_case(seed, index)))
 }
 
-fn small_case(random: &mut Random) -> Case {
+pub(super) fn small_case(random: &mut Random) -> Case {
     let [states, steps, size] = [30, 30, 10].map(|percent| random.chance(percent));
     let bytes = if states || steps || size {
         let mut d = base(random, states, steps);
@@ -47,7 +48,13 @@ fn base(random: &mut Random, states: bool, steps: bool) -> Draft {
     let form = random.below(2);
     if form == 0 && states {
         let count = near(random, SMALL.states);
-        return listed(random, count);
+        let different = if random.chance(50) { count } else { random.between(3, count) };
+        let mut d = below(random, different);
+        if let DraftSet::Explicit(states) = &mut d.state_sets[3] {
+            repeat(random, states, count - different);
+            maybe_reorder(random, states);
+        }
+        return d;
     }
     if form == 0 && steps {
         let count = near(random, SMALL.steps);
@@ -61,9 +68,9 @@ fn base(random: &mut Random, states: bool, steps: bool) -> Draft {
     d
 }
 
-/// The sample's certificate over so many states: the numbers below that, their bits being facts from some fact on. Actions clear
-/// facts, or set one and clear those above it, which leads to a lower number; the goal's fact is above them all.
-fn listed(random: &mut Random, count: usize) -> Draft {
+/// The sample's certificate over so many states, at least 3: the numbers below that, their bits being facts from some fact on.
+/// Actions clear facts, or set one and clear those above it, which leads to a lower number; the goal's fact is above them all.
+pub(super) fn below(random: &mut Random, count: usize) -> Draft {
     let bits = (count - 1).ilog2() as usize + 1;
     let facts = random.pick(&[bits + 1, bits + 2, 64]);
     let first = random.below(facts - bits);
@@ -98,9 +105,9 @@ fn add_entries(random: &mut Random, d: &mut Draft, long: bool) {
         let set = match random.below(6) {
             0 | 1 if long => {
                 let count = near(random, SMALL.states);
-                ascending(random, d.facts, count)
+                some_states(random, d.facts, count)
             }
-            2 => ascending(random, d.facts, 2),
+            2 => some_states(random, d.facts, 2),
             3 => DraftSet::Horn(vec![Clause { positive: 0, negative: 1 }; 2]),
             _ => DraftSet::Union(random.below(before as usize) as u16, before - 1),
         };
@@ -108,11 +115,20 @@ fn add_entries(random: &mut Random, d: &mut Draft, long: bool) {
     }
 }
 
-/// So many states; where there are fewer, some name a fact that there is not.
-fn ascending(random: &mut Random, facts: u8, count: usize) -> DraftSet {
+/// So many states, ascending or not; where there are fewer, some name a fact that there is not.
+fn some_states(random: &mut Random, facts: u8, count: usize) -> DraftSet {
     let apart = (1u128 << facts) as usize / count;
     let apart = random.between(1, apart.clamp(1, 1 << 20)) as u64;
-    DraftSet::Explicit((0..count as u64).map(|state| state * apart).collect())
+    let mut states: Vec<u64> = (0..count as u64).map(|state| state * apart).collect();
+    maybe_reorder(random, &mut states);
+    DraftSet::Explicit(states)
+}
+
+/// As often as not another order.
+fn maybe_reorder(random: &mut Random, states: &mut [u64]) {
+    if random.chance(50) {
+        reorder(random, states);
+    }
 }
 
 /// Says earlier steps again before the last one, until there are so many.
@@ -131,7 +147,7 @@ fn add_bytes(random: &mut Random, d: &mut Draft, bytes: usize) {
         let body = rest - 3;
         let (states, clauses) = ((body / 8).min(SMALL.states), (body / 16).min(MAX_CLAUSES));
         let set = match d.facts {
-            10.. if random.chance(50) => ascending(random, d.facts, states),
+            10.. if random.chance(50) => some_states(random, d.facts, states),
             _ => DraftSet::Horn(vec![Clause { positive: 1, negative: 0 }; clauses]),
         };
         rest -= match &set {
@@ -174,11 +190,12 @@ fn spoil(random: &mut Random, d: &mut Draft) {
         4 => d.action_sets.push(DraftActions::List((0..actions.min(1)).cycle().take(2).collect())),
         5 | 6 => d.state_sets[set] = DraftSet::Complement(set as u16),
         7 | 8 => drop(d.steps.pop()),
+        9 => d.state_sets.push(DraftSet::TwoCnf(vec![Clause { positive: 1, negative: 3 }])),
         _ => {
             let Some(at) = some_list(random, d) else { return };
             let DraftSet::Explicit(states) = &mut d.state_sets[at] else { return };
             let k = random.pick(&[1, states.len() - 1]);
-            states[k] = if random.chance(50) { states[k] | fact } else { states[k - 1] };
+            states[k] |= fact;
         }
     }
 }

@@ -232,7 +232,7 @@ fn fields_of_damaged_files() {
     let mut seen = (Tally::new(), Tally::new());
     let generated = cases(33, 3000).filter(|case| case.is_check()).map(|case| case.bytes);
     let noise = damaged(&sample().encode(), 3, 300).map(|case| case.bytes).collect::<Vec<_>>();
-    let mut random = Random::new(34);
+    let mut random = Random::new(35);
     let lists = (0..4000).map(move |_| {
         let mut d = rich();
         match random.below(10) {

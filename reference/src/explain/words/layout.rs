@@ -117,7 +117,7 @@ fn allowed_words(file: &File, fault: &LayoutFault) -> String {
     match &fault.allowed {
         Allowed::Numbers(range) => numbers_words(file, fault, range),
         Allowed::Above(before) => {
-            format!("It has to be greater than the one before it, {before}: they ascend.")
+            format!("It has to be greater than the one before it, {before}: lists of actions ascend.")
         }
         Allowed::FactsBelow(1) => "It may hold fact 0 only: the task has 1 fact.".into(),
         Allowed::FactsBelow(n) => format!("It may hold facts 0 to {} only: the task has {n} facts.", n - 1),
