@@ -44,14 +44,19 @@ impl Clause {
     }
 }
 
-/// A part of the common list of states or of clauses.
+/// A part of the common list of states or of clauses. A file has at most 8,191 of them, and as many copies.
 #[derive(Clone, Copy, Debug, PartialEq, Eq)]
 pub struct Span {
-    pub from: u32,
-    pub to: u32,
+    pub from: u16,
+    pub to: u16,
 }
 
 impl Span {
+    pub fn new(from: usize, to: usize) -> Span {
+        debug_assert!(to <= u16::MAX.into());
+        Span { from: from as u16, to: to as u16 }
+    }
+
     #[inline]
     pub fn of<'a, T>(&self, list: &'a [T]) -> &'a [T] {
         &list[self.from as usize..self.to as usize]
@@ -147,7 +152,7 @@ impl File {
     /// does is put behind them.
     pub fn listed(&mut self, from: usize) -> Listed {
         let to = self.states.len();
-        let written = Span { from: from as u32, to: to as u32 };
+        let written = Span::new(from, to);
         if self.states[from..].is_sorted_by(|a, b| a < b) {
             return Listed { written, ascending: written };
         }
@@ -162,7 +167,7 @@ impl File {
             }
         }
         self.states.truncate(end);
-        Listed { written, ascending: Span { from: to as u32, to: end as u32 } }
+        Listed { written, ascending: Span::new(to, end) }
     }
 
     /// The states of an explicit set, each once, ascending.

@@ -232,6 +232,7 @@ impl<'a> Reader<'a> {
         let (states, length_field) = (body.bytes.len() / 8, Item::EntryLength(Group::StateSet, body.entry));
         within(states, self.limits.states, body.place - 3, length_field)?;
         let from = self.file.states.len();
+        self.file.states.reserve(states);
         for (k, bytes) in body.bytes.chunks_exact(8).enumerate() {
             let state = word(bytes);
             if state & self.barred != 0 {
@@ -244,7 +245,7 @@ impl<'a> Reader<'a> {
     }
 
     fn clauses(&mut self, body: Body, lawful: fn(&Clause) -> bool) -> Read<Span> {
-        let from = self.file.clauses.len() as u32;
+        let from = self.file.clauses.len();
         for (k, bytes) in body.bytes.chunks_exact(16).enumerate() {
             let clause = Clause { positive: word(&bytes[..8]), negative: word(&bytes[8..]) };
             let (broken, offset) = if clause.positive & self.barred != 0 {
@@ -260,7 +261,7 @@ impl<'a> Reader<'a> {
             let part = Item::Part(Group::StateSet, body.entry, "clause", k as u16);
             return Err(Fault::layout(broken, body.place + 16 * k + offset, part));
         }
-        Ok(Span { from, to: self.file.clauses.len() as u32 })
+        Ok(Span::new(from, self.file.clauses.len()))
     }
 
     fn compound(&self, kind: u8, body: Body) -> Read<StateSet> {

@@ -89,9 +89,9 @@ impl<'a> Builder<'a> {
 
     /// A Horn or two-literal set.
     pub fn clauses(&mut self, kind: fn(Span) -> StateSet, clauses: &[Clause]) -> u16 {
-        let from = self.file.clauses.len() as u32;
+        let from = self.file.clauses.len();
         self.file.clauses.extend_from_slice(clauses);
-        let span = Span { from, to: self.file.clauses.len() as u32 };
+        let span = Span::new(from, self.file.clauses.len());
         self.file.state_sets.push(kind(span));
         (self.file.state_sets.len() - 1) as u16
     }
