@@ -32,7 +32,8 @@ impl Builds {
 type Check = unsafe extern "C" fn(*const u8, usize) -> u64;
 type CheckNumbered = unsafe extern "C" fn(*const u8, usize, *const u8, usize) -> u64;
 
-/// A build's functions, as `certificate.h` declares them; an early build has no lists of rule numbers. The object stays loaded.
+/// A build's functions, as `certificate.h` declares them; an early build has no lists of rule numbers, and takes explicit states that
+/// ascend alone. The object stays loaded.
 pub struct Build {
     check: Check,
     check_numbered: Option<CheckNumbered>,
@@ -56,16 +57,18 @@ impl Build {
         }
     }
 
-    /// The code of its reply; none where the file has a list and the build takes none.
+    /// The code of its reply; none where the file has a list and the build takes none, or where it says 7: no timed file is to get
+    /// that, and an early build says it of explicit states that do not ascend.
     pub fn check(&self, file: &Timed) -> Option<u64> {
         let bytes = &file.bytes;
         // They require nothing of the bytes, read no others and keep nothing.
-        match &file.numbers {
+        let code = match &file.numbers {
             None => Some(unsafe { (self.check)(bytes.as_ptr(), bytes.len()) }),
             Some(numbers) => self
                 .check_numbered
                 .map(|check| unsafe { check(bytes.as_ptr(), bytes.len(), numbers.as_ptr(), numbers.len()) }),
-        }
+        };
+        code.filter(|code| code >> 32 != 7)
     }
 }
 

@@ -2,6 +2,7 @@
 //! is measured. The seed is the workloads' usual one.
 
 use reference::draft::{sample, step, Draft, DraftActions, DraftSet};
+use reference::generate::found::{many_lists, most_states, Order as ListOrder, SHORT};
 use reference::generate::growth;
 use reference::generate::limits::{many_action_sets, many_state_sets, workload};
 use reference::generate::random::Random;
@@ -73,16 +74,61 @@ impl Timed {
     }
 }
 
-/// The four workloads, as `reference workload NUMBER 1` writes them.
+/// The five workloads, as `reference workload NUMBER 1` writes them.
 pub fn workloads() -> Vec<Timed> {
     let names = [
         "W1: 4,096 listed states, 256 actions",
         "W2: 256 Horn clauses, 256 actions",
         "W3: 256 two-literal clauses, 256 actions",
         "W4: 2,048 steps, 512 entries",
+        "W5: 3,712 listed states, a tenth of them twice, shuffled, 256 actions",
     ];
-    let make = |number: usize| workload(&mut Random::new(SEED), number);
-    names.iter().zip(1..).map(|(name, number)| Timed::accepted(*name, &make(number))).collect()
+    names.iter().zip(1..).map(|(name, number)| Timed::accepted(*name, &made(number))).collect()
+}
+
+/// A workload.
+fn made(number: usize) -> Draft {
+    workload(&mut Random::new(SEED), number)
+}
+
+/// What the order of listed states costs: W5 and many short lists beside the same with their states ascending; and as many states as a
+/// file can hold, which no step looks at, so that most of the time goes to reading them.
+pub fn in_any_order() -> Vec<Timed> {
+    let lists = many_lists(&mut Random::new(SEED));
+    let count = lists.state_sets.iter().filter(|set| matches!(set, DraftSet::Explicit(_))).count();
+    let statements = lists.steps.len() - sample().steps.len();
+    let short = |order| format!("{count} sets of {SHORT} listed states, {order}, {statements} statements");
+    let mut all = vec![
+        Timed::accepted("W5 with its states ascending, each once", &ascending(&made(5))),
+        Timed::accepted(short("shuffled"), &lists),
+        Timed::accepted(short("ascending"), &ascending(&lists)),
+    ];
+    for order in ListOrder::ALL {
+        let how = match order {
+            ListOrder::Ascending => "ascending",
+            ListOrder::Shuffled => "shuffled",
+            ListOrder::Reversed => "descending",
+            ListOrder::Equal => "all equal",
+        };
+        let draft = most_states(&mut Random::new(SEED), order);
+        all.push(Timed::accepted(
+            format!("8,162 listed states, {how}, in two sets that no step names"),
+            &draft,
+        ));
+    }
+    all
+}
+
+/// The same with the states of each explicit set ascending, each once.
+fn ascending(draft: &Draft) -> Draft {
+    let mut d = draft.clone();
+    for set in &mut d.state_sets {
+        if let DraftSet::Explicit(states) = set {
+            states.sort_unstable();
+            states.dedup();
+        }
+    }
+    d
 }
 
 /// How many steps a round has where W4 is checked in rounds.
@@ -257,12 +303,12 @@ pub struct Question {
     pub expected: Answer,
 }
 
-/// Listed states, clauses, and regressions over one another as deep as may be asked.
+/// Listed states, clauses, shuffled states, and regressions over one another as deep as may be asked.
 pub fn questions() -> Vec<Question> {
     let mut all = Vec::new();
-    for (name, number) in [("the listed states of W1", 1), ("the clauses of W2", 2), ("the clauses of W3", 3)]
-    {
-        let draft = workload(&mut Random::new(SEED), number);
+    let sets = ["the listed states of W1", "the clauses of W2", "the clauses of W3"].into_iter().zip(1..);
+    for (name, number) in sets.chain([("the shuffled states of W5", 5)]) {
+        let draft = made(number);
         let (bytes, state) = (draft.encode(), draft.init);
         all.push(Question { name: name.into(), bytes, entry: 3, state, expected: Answer::In });
     }

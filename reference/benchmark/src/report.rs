@@ -1,12 +1,12 @@
-//! The report: times on the workloads and the worst cases, what a list of rule numbers costs and what rounds and small limits do,
-//! how times grow, and the proved checker's stack, as Markdown. It ends at the first reply that is not as it should be. Where
+//! The report: times on the workloads, on states in any order and on the worst cases, what a list of rule numbers costs and what rounds
+//! and small limits do, how times grow, and the proved checker's stack, as Markdown. It ends at the first reply that is not as it should be. Where
 //! an earlier build of the proved checker is given, its times stand beside.
 
 use crate::agreement;
 use crate::earlier::Builds;
 use crate::files::{
-    at_small_limits, deepest, questions, series, without_and_with_list, workloads, worst_cases, Limited,
-    Question, Series, Timed, ROUNDS,
+    at_small_limits, deepest, in_any_order, questions, series, without_and_with_list, workloads, worst_cases,
+    Limited, Question, Series, Timed, ROUNDS,
 };
 use crate::format::{count, head, ratio, row, time};
 use crate::timing::{compare, list_cost, small_and_full, steps_at_a_time, Pace, Pair, Times};
@@ -17,8 +17,9 @@ use reference::layout::MAX_STEPS;
 pub fn print(pace: Pace, builds: Option<&Builds>) -> Result<(), String> {
     println!("{}", circumstances(pace));
     let (workloads, lists, worst, series) = (workloads(), without_and_with_list(), worst_cases(), series());
+    let orders = in_any_order();
     println!("\n## Workloads\n\n{}", head(&with_before(&TIMES, builds.map(|_| BEFORE))));
-    for file in workloads.iter().chain(&lists[1..]).chain(&worst) {
+    for file in workloads.iter().chain(&orders).chain(&lists[1..]).chain(&worst) {
         println!("{}", times_row(file, pace, builds)?);
     }
     println!("\n## With a list of rule numbers, and without\n\n{}", head(&LIST_COST));
@@ -41,6 +42,7 @@ pub fn print(pace: Pace, builds: Option<&Builds>) -> Result<(), String> {
     println!("\n## Deepest stack of the proved checker\n\n{}", head(&["call", ">bytes", "file or entry"]));
     let whole = |file: &Timed| stack::of_round(&file.bytes, 0, MAX_STEPS as u64);
     println!("{}", check_stack("check, workloads", &workloads, stack::of_file)?);
+    println!("{}", check_stack("check, states in any order", &orders, stack::of_file)?);
     println!("{}", check_stack("check, a list of rule numbers", &lists[1..], stack::of_file)?);
     println!("{}", check_stack("a round of all steps, workloads", &workloads, whole)?);
     let fitting = small.iter().filter(|one| one.small == one.file.expected).map(|one| &one.file);

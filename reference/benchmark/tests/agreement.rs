@@ -5,17 +5,19 @@ use std::collections::BTreeSet;
 
 use benchmark::earlier::{Build, Builds};
 use benchmark::files::{
-    at_small_limits, deepest, questions, series, without_and_with_list, workloads, worst_cases, Limited,
-    Timed, ACTIONS, RIGHT_CLAUSES, ROUNDS,
+    at_small_limits, deepest, in_any_order, questions, series, without_and_with_list, workloads, worst_cases,
+    Limited, Timed, ACTIONS, RIGHT_CLAUSES, ROUNDS,
 };
 use benchmark::timing::{compare, Pace};
 use benchmark::{agreement, proved, stack};
-use reference::file::File;
+use reference::draft::Draft;
+use reference::file::{File, StateSet};
 use reference::layout::MAX_BYTES;
 use reference::Reply;
 
 fn all() -> Vec<Timed> {
     let mut files = workloads();
+    files.extend(in_any_order());
     files.extend(without_and_with_list());
     files.extend(worst_cases());
     files.extend(at_small_limits().into_iter().map(|limited| limited.file));
@@ -123,15 +125,23 @@ fn object(name: &str, words: &[&str]) -> String {
     path
 }
 
-/// This build as a shared object, as `reference/bench --before` makes one of an earlier build; and an object with
-/// `certificate_check` alone, which is no build, in the place of one that takes no lists.
+/// An object with `certificate_check` alone, which replies with this code whatever the file is.
+fn stand_in(name: &str, code: &str) -> String {
+    let source = std::env::temp_dir().join(format!("{name}-{}.c", std::process::id()));
+    std::fs::write(&source, format!("long certificate_check() {{ return {code}; }}\n")).expect("a source");
+    let object = object(name, &[source.to_str().expect("a plain name")]);
+    std::fs::remove_file(source).expect("the source goes");
+    object
+}
+
+/// This build as a shared object, as `reference/bench --before` makes one of an earlier build; and objects in the place of a build that
+/// takes no lists of rule numbers, and of one that says 7.
 #[test]
 fn an_earlier_build_is_loaded_beside_this_one() {
     let library = concat!(env!("CARGO_MANIFEST_DIR"), "/../../target/staticlib/liblink.a");
     let today = object("today", &["-Wl,--whole-archive", library, "-Wl,--no-whole-archive"]);
-    let without_lists = std::env::temp_dir().join(format!("early-{}.c", std::process::id()));
-    std::fs::write(&without_lists, "long certificate_check() { return 0; }\n").expect("a source");
-    let early = object("early", &[without_lists.to_str().expect("a plain name")]);
+    let [early, refusing] =
+        [("early", "0"), ("refusing", "7l << 32 | 99")].map(|(name, code)| stand_in(name, code));
     let builds = Builds::load(&today, &today).unwrap_or_else(|message| panic!("{message}"));
     let [plain, listed] = without_and_with_list();
     for file in [&deepest(), &plain, &listed] {
@@ -144,9 +154,12 @@ fn an_earlier_build_is_loaded_beside_this_one() {
     let timed = [&plain, &listed].map(|file| compare(Pace::QUICK, file, Some(&mixed)).earlier.is_some());
     assert_eq!(timed, [true, false]);
     assert!(agreement::same(&deepest(), &mixed.before).is_err());
+    // One that says 7 is not timed.
+    let refusing_build = Build::load(&refusing).unwrap_or_else(|message| panic!("{message}"));
+    assert_eq!((refusing_build.check(&plain), agreement::same(&plain, &refusing_build)), (None, Ok(())));
     assert!(Builds::load(&early, &early).is_err() && Builds::load(&today, "/no/such/object.so").is_err());
     assert!(Build::load("/no/such/object.so").is_err());
-    for path in [today.as_ref(), early.as_ref(), without_lists.as_path()] {
+    for path in [today, early, refusing] {
         std::fs::remove_file(path).expect("a file of this test");
     }
 }
@@ -169,6 +182,43 @@ fn workloads_are_as_large_as_they_say() {
     assert_eq!((files[1].clauses.len(), files[1].task.actions.len()), (256, 256));
     assert_eq!((files[2].clauses.len(), files[2].task.actions.len()), (256, 256));
     assert_eq!((files[3].steps.len(), files[3].state_sets.len()), (2048, 512));
+    assert_eq!((lists(&files[4]), files[4].task.actions.len()), (vec![(4083, 3712)], 256));
+    assert_eq!(reached(&files[4]), 3712);
+}
+
+/// How many states each explicit set lists, and how many different ones.
+fn lists(file: &File) -> Vec<(usize, usize)> {
+    let listed = file.state_sets.iter().filter_map(|set| match set {
+        StateSet::Explicit(listed) => Some(*listed),
+        _ => None,
+    });
+    listed.map(|set| (set.written.of(&file.states).len(), file.ascending(set).len())).collect()
+}
+
+/// Each file in another order has the states of the one in ascending order, and is as large as its name says.
+#[test]
+fn files_in_any_order_are_as_large_as_they_say() {
+    let (all, w5) = (in_any_order(), workloads().swap_remove(4));
+    let files: Vec<File> = all.iter().map(read).collect();
+    assert_eq!(lists(&files[0]), [(3712, 3712)]);
+    assert_eq!(Draft::of(&files[0]).actions, Draft::of(&read(&w5)).actions);
+    assert!(all[1].name.starts_with("506 sets of 15 listed states, shuffled, 252 statements"));
+    for (file, bytes) in [(&files[1], &all[1].bytes), (&files[2], &all[2].bytes)] {
+        assert_eq!((lists(file), file.steps.len() - 8), (vec![(15, 15); 506], 252));
+        assert_eq!((file.state_sets.len(), bytes.len()), (512, 65_469));
+    }
+    for (file, different) in files[3..].iter().zip([8162, 8162, 8162, 2]) {
+        let long: Vec<(usize, usize)> = lists(file).split_off(1);
+        assert_eq!(long.iter().map(|one| one.0).collect::<Vec<_>>(), [4096, 4066]);
+        assert_eq!(long.iter().map(|one| one.1).sum::<usize>(), different);
+    }
+    assert!(all[3..].iter().all(|file| file.bytes.len() == MAX_BYTES));
+    // Only those that are called ascending need no copy of their states.
+    let ascends = |file: &File| lists(file).iter().map(|one| one.0).sum::<usize>() == file.states.len();
+    assert_eq!(
+        all.iter().map(|one| one.name.contains("ascending")).collect::<Vec<_>>(),
+        files.iter().map(ascends).collect::<Vec<_>>()
+    );
 }
 
 #[test]
