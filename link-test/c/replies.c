@@ -1,14 +1,17 @@
-/* The proved checker from C, and from C++: what it replies to files, to changes of the sample, by the small limits, to lists of rule
-   numbers, in rounds and to questions, printed for comparison with `expected`. The first file is the sample. */
+/* The proved checker from C, and from C++: what it replies to files, to changes of the sample, to states in another order, by the small
+   limits, to lists of rule numbers, in rounds and to questions, printed for comparison with `expected`. The first file is the sample. */
 #include "certificate.h"
 
 #include <stdio.h>
 #include <stdlib.h>
 #include <string.h>
 
-enum { LIMIT = 65537, SMALL = 16384, RULES = 28, SAMPLE_LIST = 88, SAMPLE_COUNT = 136, SAMPLE_STEPS = 138, STEP = 12 };
+enum { LIMIT = 65537, SMALL = 16384, RULES = 28, STEP = 12 };
 
-/* A change of the sample: one byte, for each refusal that one byte makes. */
+/* Places in the sample: the count of its action sets and their end, its list of states, its step count and steps. */
+enum { SAMPLE_ACTION_SETS = 72, SAMPLE_STATE_SETS = 77, SAMPLE_LIST = 88, SAMPLE_COUNT = 136, SAMPLE_STEPS = 138 };
+
+/* A change of the sample: one byte, for each refusal that one byte makes; `print_orders` has 7. */
 static const struct change {
     size_t at;
     uint8_t byte;
@@ -19,10 +22,10 @@ static const struct change {
     {5, 0},    /* no facts: 4 */
     {21, 7},   /* the forbidden mask names fact 2: 5 */
     {119, 9},  /* set 4 names set 9: 6 */
-    {106, 0},  /* a state listed twice: 7 */
     {138, 99}, /* a rule that there is not: 8 */
     {141, 1},  /* ED of the initial state: 9 */
     {150, 1},  /* a progression in B1: 10 */
+    {106, 0},  /* a state twice, another missing: 11 */
     {114, 3},  /* a state that leads out of the set: 11 */
 };
 
@@ -38,6 +41,21 @@ static void print_reply(const char *what, uint64_t code) {
 static void print_answer(const char *what, uint64_t code) {
     if (code == CERTIFICATE_IN || code == CERTIFICATE_OUT) {
         printf("%s: %s\n", what, code == CERTIFICATE_IN ? "in" : "out");
+    } else {
+        print_reply(what, code);
+    }
+}
+
+/* Whether a round's code is the step to go on from. */
+static int goes_on(uint64_t code) {
+    return code != 0 && CERTIFICATE_NUMBER(code) == 0;
+}
+
+static void print_round(const char *what, uint64_t code) {
+    if (goes_on(code)) {
+        printf("%s: go on from %u\n", what, (unsigned)code);
+    } else if (code == 0) {
+        printf("%s: ended\n", what);
     } else {
         print_reply(what, code);
     }
@@ -82,6 +100,42 @@ static void print_changes(const uint8_t *sample, size_t length) {
 static void put(uint8_t *at, size_t number) {
     at[0] = (uint8_t)(number >> 8);
     at[1] = (uint8_t)number;
+}
+
+/* Puts bytes before those at a place and mends the length field: how long the file is then. */
+static size_t insert(uint8_t *file, size_t length, size_t at, const uint8_t *bytes, size_t count) {
+    memmove(file + at + count, file + at, length - at);
+    memcpy(file + at, bytes, count);
+    put(file + 2, length + count - 4);
+    return length + count;
+}
+
+/* The sample with its last state before the others as well, by each function; with a state that there is not among them, with one
+   missing; and with a list of its actions, which has to ascend. */
+static void print_orders(const uint8_t *sample, size_t length) {
+    static uint8_t file[LIMIT];
+    static const uint8_t list[] = {0, 5, 1, 0, 1, 0, 0};
+    size_t longer;
+    memcpy(file, sample, length);
+    longer = insert(file, length, SAMPLE_LIST + 3, sample + SAMPLE_LIST + 19, 8);
+    put(file + SAMPLE_LIST, 1 + 8 * 4);
+    print_reply("states 2 0 1 2", certificate_check(file, longer));
+    print_reply("small, states 2 0 1 2", certificate_check_small(file, longer));
+    print_round("8 steps, states 2 0 1 2", certificate_round(file, longer, 0, 8));
+    print_answer("state 1 among 2 0 1 2", certificate_ask(file, longer, 3, 1));
+    print_answer("state 3 among 2 0 1 2", certificate_ask(file, longer, 3, 3));
+    file[SAMPLE_LIST + 26] = 4;
+    print_reply("states 2 0 4 2", certificate_check(file, longer));
+    file[SAMPLE_LIST + 26] = 0;
+    print_reply("states 2 0 0 2", certificate_check(file, longer));
+    memcpy(file, sample, length);
+    longer = insert(file, length, SAMPLE_STATE_SETS, list, sizeof list);
+    put(file + SAMPLE_ACTION_SETS, 2);
+    print_reply("actions 1 0", certificate_check(file, longer));
+    put(file + SAMPLE_STATE_SETS + 3, 0);
+    print_reply("actions 0 0", certificate_check(file, longer));
+    put(file + SAMPLE_STATE_SETS + 5, 1);
+    print_reply("actions 0 1", certificate_check(file, longer));
 }
 
 /* The sample with zeros after it, at each small limit and one past it: bytes; states that the length of its list says; steps that its
@@ -143,21 +197,6 @@ static void print_numbered(const uint8_t *sample, size_t length) {
     print_reply("a zero and no bytes", certificate_check_numbered(NULL, 0, numbers, RULES));
 }
 
-/* Whether a round's code is the step to go on from. */
-static int goes_on(uint64_t code) {
-    return code != 0 && CERTIFICATE_NUMBER(code) == 0;
-}
-
-static void print_round(const char *what, uint64_t code) {
-    if (goes_on(code)) {
-        printf("%s: go on from %u\n", what, (unsigned)code);
-    } else if (code == 0) {
-        printf("%s: ended\n", what);
-    } else {
-        print_reply(what, code);
-    }
-}
-
 /* A whole check in rounds of `count` steps, with a question after each: a round begins where the one before it got to. */
 static void print_run(const uint8_t *file, size_t length, uint64_t count) {
     uint64_t code = 0;
@@ -208,6 +247,7 @@ int main(int count, char **paths) {
     print_answer("a question about no bytes", certificate_ask(NULL, 0, 0, 0));
     length = read_file(paths[1], bytes);
     print_changes(bytes, length);
+    print_orders(bytes, length);
     print_small(bytes, length);
     print_numbered(bytes, length);
     print_rounds(bytes, length);

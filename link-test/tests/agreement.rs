@@ -1,12 +1,16 @@
 //! The linked checker replies as the reference checker does.
 
 use link_test::{answer_code, ask, check, check_numbered, check_small, reply_code, round, round_code};
-use reference::draft::mend_length;
+use reference::draft::{mend_length, DraftSet};
+use reference::generate::limits::shuffle;
+use reference::generate::listed::listed;
 use reference::generate::numbered::numbered;
 use reference::generate::random::Random;
+use reference::generate::relisted::{alike, relisted};
 use reference::generate::rounds::rounds;
 use reference::generate::small::small;
-use reference::generate::{cases, Call};
+use reference::generate::{cases, Call, Case};
+use reference::task::Action;
 use reference::Reply;
 
 /// Both checkers on one file.
@@ -83,6 +87,121 @@ fn generated_cases() {
     }
     assert!(accepted >= 500 && inside >= 200 && outside >= 200, "{accepted} {inside} {outside}");
     assert!(refused[1..].iter().all(|count| *count >= 5), "{refused:?}");
+}
+
+/// Every function on one file: a check, one by the small limits, rounds from each step of a few, and questions.
+fn same_all(file: &[u8], questions: &[(u64, u64)], what: &str) -> u64 {
+    let code = same_reply(file, what);
+    same_small(file, what);
+    assert_eq!(same_round(file, 0, 2048, what), code, "{what}");
+    for from in 0..4 {
+        same_round(file, from, 2, what);
+    }
+    for (entry, state) in questions {
+        same_answer(file, *entry, *state, what);
+    }
+    code
+}
+
+/// Files whose explicit states are in any order, with repeats: accepted ones, and near misses.
+#[test]
+fn listed_cases() {
+    let (mut accepted, mut refused) = (0, [0; 20]);
+    for (index, case) in listed(13, 6000).enumerate() {
+        let (what, about) = (format!("case {index}"), (index % 16) as u64);
+        let asked = match case.call {
+            Call::Ask(entry, state) => (entry, state),
+            _ => (3, about),
+        };
+        match same_all(&case.bytes, &[asked, (3, 0), (4, about)], &what) {
+            0 => accepted += 1,
+            code => refused[(code >> 32) as usize] += 1,
+        }
+    }
+    assert!(accepted >= 1500, "{accepted} {refused:?}");
+    assert!(refused[4] >= 10 && [5, 7, 9, 11].iter().all(|number| refused[*number] >= 100), "{refused:?}");
+}
+
+/// The sample with every order of its states and of one or two repeats.
+#[test]
+fn orders_of_the_sample() {
+    let (file, questions) = (sample("sample"), [0, 1, 2, 3, 4].map(|state| (3, state)));
+    let with_states = |states: &[u64]| {
+        let listed: Vec<u8> = states.iter().flat_map(|state| state.to_be_bytes()).collect();
+        let length = (1 + listed.len() as u16).to_be_bytes();
+        let mut file = [&file[..88], &length, &[3], &listed, &file[115..]].concat();
+        mend_length(&mut file);
+        file
+    };
+    for count in 0..=5 {
+        // Every list of so many states below 4; what is 4 or above names fact 2.
+        for list in 0..1u64 << (2 * count) {
+            let mut states: Vec<u64> = (0..count).map(|k| list >> (2 * k) & 3).collect();
+            let code = same_all(&with_states(&states), &questions, "the sample's states");
+            let is_set = (0..3).all(|state| states.contains(&state)) && !states.contains(&3);
+            assert_eq!(code == 0, is_set, "{states:?}");
+            for k in 0..count as usize {
+                let state = std::mem::replace(&mut states[k], 4 + k as u64);
+                let place = 91 + 8 * k as u64;
+                assert_eq!(same_all(&with_states(&states), &questions[..1], "a bad state"), 5 << 32 | place);
+                states[k] = state;
+            }
+        }
+    }
+}
+
+/// As many states as a set may have, and one more, repeats counted: of few different ones and of many.
+#[test]
+fn lists_at_the_limits() {
+    let mut random = Random::new(14);
+    let mut d = reference::draft::sample();
+    (d.facts, d.goal) = (14, 1 << 13);
+    d.actions = vec![Action { pre: 0, add: 0, del: 3 }];
+    for (limit, past) in [(512, 19 << 32), (4096, 4 << 32)] {
+        for different in [1, 2, 300, limit - 1, limit] {
+            for count in [limit - 1, limit, limit + 1] {
+                let mut states: Vec<u64> = (0..different as u64).cycle().take(count).collect();
+                shuffle(&mut random, &mut states);
+                let questions = [0, different as u64 - 1, different as u64].map(|state| (3, state));
+                d.state_sets[3] = DraftSet::Explicit(states);
+                let file = d.encode();
+                let code = same_all(&file, &questions, "a list at a limit");
+                let judged = if limit == 512 { check_small(&file) } else { code };
+                // With one action fewer than the sample has, the list stands 24 bytes before the sample's.
+                assert_eq!(judged, if count > limit { past | 64 } else { 0 }, "{different} of {count}");
+            }
+        }
+    }
+}
+
+/// What the proved checker says in words, for a check, a round or a question alike.
+fn said(code: u64) -> String {
+    match code >> 32 {
+        0 => code.to_string(),
+        number => format!("refused {number} {}", code as u32),
+    }
+}
+
+/// Files that differ in the order of listed states alone: the replies to each pair are alike.
+#[test]
+fn relisted_cases() {
+    let (mut elsewhere, cases) = (0, relisted(15, 4000).collect::<Vec<Case>>());
+    for (index, pair) in cases.chunks(2).enumerate() {
+        let codes = [&pair[0], &pair[1]].map(|case| {
+            let (file, what) = (&case.bytes[..], format!("pair {index}"));
+            match &case.call {
+                Call::Check => same_reply(file, &what),
+                Call::Small => same_small(file, &what),
+                Call::Numbered(list) => same_numbered(file, list, &what),
+                Call::Ask(entry, state) => same_answer(file, *entry, *state, &what),
+                Call::Round(from, count) => same_round(file, *from, *count, &what),
+            }
+        });
+        let words = codes.map(said);
+        assert!(alike([&pair[0], &pair[1]], words.each_ref().map(|one| &**one)), "pair {index}: {words:?}");
+        elsewhere += (codes[0] != codes[1]) as usize;
+    }
+    assert!(elsewhere >= 100, "{elsewhere}");
 }
 
 /// Files with a caller's own rule numbers, and lists with faults.
