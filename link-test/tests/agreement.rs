@@ -430,6 +430,7 @@ fn samples() {
         "horn",
         "two_literal",
         "two_lists",
+        "found",
         "regression",
         "listed_actions_refused_9",
         "false_actions_refused_11",

@@ -6,7 +6,7 @@ mod common;
 use std::collections::{BTreeMap, BTreeSet};
 
 use common::{has_state, Meaning};
-use reference::assemble::assemble;
+use reference::assemble::{assemble, parse};
 use reference::draft::{sample, step, Draft, DraftActions, DraftSet};
 use reference::explain::counterexample::Counterexample;
 use reference::explain::{explain, why, Why};
@@ -213,6 +213,25 @@ fn questions_through_other_sets() {
     assert_eq!(asked(first + 1), [true, false, true, true]);
     assert_eq!(asked(first + 2), [true, false, false, false]);
     assert_eq!(asked(first + 3), [true; 4]);
+}
+
+/// The sample `found` lists its states as a search meets them.
+#[test]
+fn the_sample_of_states_as_found() {
+    let found = parse(include_str!("../../samples/found.txt")).expect("a text");
+    let (mut met, mut at) = (vec![found.init], 0);
+    while at < met.len() {
+        let state = met[at];
+        if met.iter().position(|other| *other == state) == Some(at) {
+            let after = found.actions.iter().filter(|a| a.applies(state)).map(|a| a.after(state));
+            met.extend(after.filter(|other| *other != state));
+        }
+        at += 1;
+    }
+    assert_eq!(found.state_sets[3], DraftSet::Explicit(met.clone()));
+    assert!(!met.is_sorted() && BTreeSet::from_iter(&met).len() + 2 < met.len(), "{met:?}");
+    let bytes = include_bytes!("../../samples/found.cert");
+    assert_eq!((check(bytes), check_small(bytes)), (Reply::Accepted, Reply::Accepted));
 }
 
 /// What is listed is shown and written as it is; only ascending states make ranges.
