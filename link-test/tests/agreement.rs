@@ -201,7 +201,7 @@ fn relisted_cases() {
         assert!(alike([&pair[0], &pair[1]], words.each_ref().map(|one| &**one)), "pair {index}: {words:?}");
         elsewhere += (codes[0] != codes[1]) as usize;
     }
-    assert!(elsewhere >= 100, "{elsewhere}");
+    assert!(elsewhere >= 50, "{elsewhere}");
 }
 
 /// Files with a caller's own rule numbers, and lists with faults.

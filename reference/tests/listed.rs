@@ -14,7 +14,7 @@ use reference::file::{File, StateSet};
 use reference::generate::limits::shuffle;
 use reference::generate::listed::listed;
 use reference::generate::random::Random;
-use reference::generate::relisted::{alike, bodies, relisted};
+use reference::generate::relisted::{alike, ascends, bodies, relisted};
 use reference::generate::{Call, Case};
 use reference::layout;
 use reference::names::Names;
@@ -382,8 +382,8 @@ fn sorted(bytes: &[u8]) -> Vec<u8> {
     bytes
 }
 
-/// Each pair differs, and in the order of listed states alone. Their replies are alike: every number that there is comes up, and 5
-/// in a set at two places.
+/// Each pair differs, and in the order of listed states alone; most first files list them ascending. Their replies are alike: every
+/// number that there is comes up, and 5 in a set at two places.
 #[test]
 fn files_that_list_their_states_otherwise() {
     let mut seen: BTreeMap<String, usize> = BTreeMap::new();
@@ -399,6 +399,7 @@ fn files_that_list_their_states_otherwise() {
         );
         let outcome = replies[0].split(' ').take(2).collect::<Vec<&str>>().join(" ");
         *seen.entry(outcome).or_default() += 1;
+        *seen.entry("ascending at first".into()).or_default() += ascends(&first.bytes) as usize;
         if replies[0] != replies[1] {
             assert!(replies.iter().all(|reply| reply.starts_with("refused 5 ")), "{replies:?}");
             *seen.entry("two places".into()).or_default() += 1;
@@ -410,7 +411,7 @@ fn files_that_list_their_states_otherwise() {
         let count = seen.get(&outcome).copied().unwrap_or(0);
         assert!(count >= 10, "{outcome}: {count} of {seen:?}");
     }
-    assert!(seen["accepted"] > 700, "{seen:?}");
+    assert!(seen["accepted"] > 700 && seen["ascending at first"] >= 3000, "{seen:?}");
 }
 
 /// Replies that are not alike: another number or place, 5 at the other's place, at a later state or in one of them alone.

@@ -15,8 +15,10 @@ pub fn relisted(seed: u64, count: u64) -> impl Iterator<Item = Case> {
     (0..count).flat_map(move |index| pair(&mut Random::for_case(seed, index)))
 }
 
-/// A case of any sort whose file has states to reorder, and the same case with them in another order.
+/// A case of any sort whose file has states to reorder, and the same case with them in another order. Most first files list them
+/// ascending.
 fn pair(random: &mut Random) -> [Case; 2] {
+    let any_order = random.chance(25);
     loop {
         let first = match random.below(20) {
             0..=6 => case(random),
@@ -25,7 +27,8 @@ fn pair(random: &mut Random) -> [Case; 2] {
             15 | 16 => round_case(random),
             _ => small_case(random),
         };
-        if let Some(bytes) = reordered(random, &first.bytes) {
+        let fits = any_order || ascends(&first.bytes);
+        if let Some(bytes) = reordered(random, &first.bytes).filter(|_| fits) {
             return [first.clone(), Case { bytes, ..first }];
         }
     }
@@ -41,6 +44,11 @@ fn reordered(random: &mut Random, bytes: &[u8]) -> Option<Vec<u8>> {
         states.iter().zip(&mut places).for_each(|(state, place)| place.copy_from_slice(&state.to_be_bytes()));
     }
     (other != bytes).then_some(other)
+}
+
+/// Whether each explicit set lists its states ascending, each once.
+pub fn ascends(bytes: &[u8]) -> bool {
+    bodies(bytes).into_iter().all(|body| states(&bytes[body]).is_sorted_by(|a, b| a < b))
 }
 
 /// The states in the bytes of a set's body.
