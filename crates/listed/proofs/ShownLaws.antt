@@ -2,8 +2,9 @@
 -- Assumes nothing.
 use mathlib.Core.Path.{_≡_, refl, ap, subst, sym, _∙_}
 use mathlib.Core.Logic.{_↔_, inl, inr}
-use Prim.Native.Nat.{ℕ, _^_, _≤_, _<_}
+use Prim.Native.Nat.{ℕ, _+_, _-_, _*_, _^_, _≤_, _<_}
 use native.Mathlib.Omega.{arith}
+use native.Mathlib.Decide.{decLt}
 use mathlib.Core.Bool.{Bool, true, false, not, _&&_, _||_}
 use mathlib.Core.List.{List}
 use lib.ListN.{length}
@@ -12,8 +13,9 @@ use Rattle.task.specs.declared.Action.{Action}
 use Rattle.task.specs.declared.Ends.{Ends}
 use Rattle.task.specs.Task.{applies, after}
 use Rattle.task.specs.Reach.{member}
-use Rattle.task.proofs.Tests.{and-left, and-right, and-both, or-cases, or-right, holds, is-false, never, member-none}
+use Rattle.task.proofs.Tests.{and-left, and-right, and-both, both-ways, or-cases, or-left, or-right, excluded, holds, is-false, never, same, member-none}
 use Rattle.task.proofs.Names.{at-init-is, at-init-same}
+use Rattle.bytes.specs.Numbers.{numberAt}
 use Rattle.meaning.specs.Sets.{allBelow, someBelow}
 use Rattle.meaning.proofs.Below.{all-at, all-of, some-at, some-of}
 use Rattle.certificate.specs.declared.Span.{Span}
@@ -28,7 +30,7 @@ use Rattle.leaves.specs.Holds.{statesAt, setHolds, Orderly}
 use Rattle.leaves.specs.Lists.{leafHolds, Countered}
 use Rattle.leaves.proofs.ListLaws.{each-at, each-of}
 use Rattle.listed.specs.Listed.{ListsStates, Anchored}
-use Rattle.listed.specs.Search.{Readable, StatesAfter, Closed, holdsOne, showsIn}
+use Rattle.listed.specs.Search.{Readable, StatesAfter, Different, Closed, holdsOne, showsIn}
 use Rattle.membership.proofs.SearchLaws.{listed-at, listed-in-order}
 
 -- leaf j: its set may be asked, and what was asked of it
@@ -204,3 +206,41 @@ module _ (bytes : List ℕ) (ends : Ends) (a : Action) (left : List ℕ) (m : �
         let v = listed-in-order bytes index x (w .state) o h in
         some-of (x .count) _ (v .0) (v .1) (subst (λ (s : ℕ). T (In s)) (v .2) (counters-in w))),
   )
+
+-- ---- what was found last
+
+-- one was looked for, and this is the same
+pub same-again : (near t last : ℕ) → (eqb near 0 || not (eqb t last)) ≡ false → (near ≡ 0 → ⊥) × (t ≡ last)
+same-again near t last e = (
+  (λ z. subst T e (or-left (eqb near 0) (not (eqb t last)) (same z))),
+  eqb→eq t last (elim (excluded (eqb t last)) [
+    | inl h ↦ h
+    | inr n ↦ absurd (subst T e (or-right (eqb near 0) (not (eqb t last)) n))
+  ]),
+)
+
+-- ---- the states that differ
+
+module _ {bytes index : List ℕ} {x : Span} (o : InOrder bytes index x) {m : ℕ} (d : Different index x m) where
+  -- those behind them are the last of them again
+  again : (k : ℕ) → m ≤ k → k < x .count → stateIn bytes index x k ≡ stateIn bytes index x (m - 1)
+  again k l h =
+      let (some, named) = d .1 (omega arith) in
+      let e = ap (λ (r : ℕ). numberAt 8 bytes (x .at + 8 * r)) named in
+      let a = o .ascend (m - 1) k (omega arith) h in
+      let b = o .ascend k (x .count - 1) (omega arith) (omega arith) in
+      omega arith
+
+  -- so it is enough to look at them
+  pub some-different : (p : ℕ → Bool)
+      → someBelow m (λ i. p (stateIn bytes index x i)) ≡ someBelow (x .count) (λ i. p (stateIn bytes index x i))
+  some-different p = both-ways _ _
+      (λ t. let (k, l, h) = some-at m _ t in some-of (x .count) _ k (omega (arith, d .0)) h)
+      (λ t.
+      let (k, l, h) = some-at (x .count) _ t in
+      elim (decLt k m) [
+        | yes n ↦ some-of m _ k n h
+        | no n ↦
+            let (some, named) = d .1 (omega arith) in
+            some-of m _ (m - 1) (omega arith) (subst (λ (s : ℕ). T (p s)) (again k (omega arith) l) h)
+      ])

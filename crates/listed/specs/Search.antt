@@ -2,7 +2,7 @@
 -- Assumes nothing.
 use mathlib.Core.Path.{_≡_}
 use mathlib.Core.Logic.{_⊎_}
-use Prim.Native.Nat.{ℕ, _≤_}
+use Prim.Native.Nat.{ℕ, _-_, _≤_, _<_}
 use mathlib.Core.Bool.{Bool, true, false, not, _&&_, _||_}
 use mathlib.Core.List.{List}
 use lib.ListN.{length}
@@ -14,6 +14,7 @@ use Rattle.task.specs.Reach.{member}
 use Rattle.meaning.specs.Sets.{allBelow}
 use Rattle.certificate.specs.declared.Span.{Span}
 use Rattle.certificate.specs.declared.BasicEntry.the-variants.{Explicit}
+use Rattle.certificate.specs.Rows.{rowOf}
 use Rattle.leaves.specs.declared.Leaf.{Leaf}
 use Rattle.leaves.specs.Leaves.{leafIn, leavesIn}
 use Rattle.leaves.specs.Holds.{statesAt, setHolds, Orderly}
@@ -27,6 +28,11 @@ Readable bytes index leaves m = (m ≤ length leaves) × Each (λ x. Orderly byt
 abbrev pub StatesAfter : List ℕ → ℕ → Span → Type 0
 StatesAfter right r p =
     (p ≡ record { at = 0; count = 0 }) ⊎ ((1 ≤ r) × (leafIn right 0 .set ≡ Explicit p) × (leafIn right 0 .after ≡ true))
+
+-- of listed states, by size, the m-th is the last: those between are the same state
+abbrev pub Different : List ℕ → Span → ℕ → Type 0
+Different index x m =
+    (m ≤ x .count) × (0 < x .count → (0 < m) × (rowOf index x (m - 1) ≡ rowOf index x (x .count - 1)))
 
 -- the action does not apply in s, or leads from it to one of the listed states
 abbrev pub Closed : List ℕ → Span → Action → ℕ → Type 0

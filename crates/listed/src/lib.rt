@@ -14,7 +14,7 @@ use task::after;
 use task::applies;
 ghost use mathlib.Core.Path.{_≡_};
 ghost use mathlib.Core.Logic.{_↔_};
-ghost use Prim.Native.Nat.{ℕ, _≤_, _<_};
+ghost use Prim.Native.Nat.{ℕ, _+_, _*_, _≤_, _<_};
 ghost use mathlib.Core.Bool.{not, _||_};
 ghost use lib.ListN.{length};
 ghost use lib.Dec.{T, eqb};
@@ -24,7 +24,7 @@ ghost use Rattle.leaves.specs.Leaves.{leafIn, leavesIn};
 ghost use Rattle.leaves.specs.Holds.{Orderly};
 ghost use Rattle.leaves.specs.Lists.{Each, Countered};
 ghost use Rattle.listed.specs.Listed.{Anchored};
-ghost use Rattle.listed.specs.Search.{Readable, StatesAfter, Closed, holdsOne, showsIn};
+ghost use Rattle.listed.specs.Search.{Readable, StatesAfter, Different, Closed, holdsOne, showsIn};
 
 // Whether a leaf holds s, or t where it is asked about the state after the action.
 fn holds_one(file: &[u8], index: &Index, ends: Ends, x: Leaf, s: u64, t: u64) -> bool
@@ -130,31 +130,64 @@ fn states_after(right: &[u64], r: usize) -> Span
     states
 }
 
-// The first of listed states, by size and from number `from` on, in which the action applies and does not lead into other listed states.
+// How many listed states differ: by size, those behind them are the last of them again.
+fn different(index: &Index, x: Span, rows: bool) -> usize
+    requires { ⌜ (x .at + 8 * x .count ≤ 65536) × (rows ≡ byRows (now index)) ⌝ }
+    ensures { λ m. ⌜ Different (now (index .entry)) x m ⌝ }
+{
+    let count = x.count as usize;
+    if count == 0 {
+        return 0;
+    }
+    if !rows {
+        return count;
+    }
+    let first = 768 + x.at as usize / 8;
+    let last = index[first + (count - 1)];
+    let mut lo: usize = 0;
+    let mut hi = count - 1;
+    while lo < hi {
+        let mid = lo + ((hi - lo) >> 1);
+        if index[first + mid] == last {
+            hi = mid;
+        } else {
+            lo = mid + 1;
+        }
+    }
+    hi + 1
+}
+
+// The first of listed states, by size, from number `from` on and before `to`, in which the action applies and does not lead into other
+// listed states. What it leads to is looked for behind what was found last, and not again where it is the same.
 fn first_open(
     file: &[u8],
     index: &Index,
     x: Span,
     from: usize,
+    to: usize,
     into: Span,
     rows: bool,
     a: Action,
 ) -> usize
-    requires { ⌜ InOrder (now file) (now index) x × InOrder (now file) (now index) into × (rows ≡ byRows (now index)) × (from ≤ x .count) ⌝ }
-    ensures { λ r. ⌜ (r ≤ x .count) × (from ≤ r) × ((k : ℕ) → from ≤ k → k < r → Closed (now (file .entry)) into a (stateIn (now (file .entry)) (now (index .entry)) x k)) ⌝ }
+    requires { ⌜ InOrder (now file) (now index) x × InOrder (now file) (now index) into × (rows ≡ byRows (now index)) × (from ≤ to) × (to ≤ x .count) ⌝ }
+    ensures { λ r. ⌜ (r ≤ to) × (from ≤ r) × ((k : ℕ) → from ≤ k → k < r → Closed (now (file .entry)) into a (stateIn (now (file .entry)) (now (index .entry)) x k)) ⌝ }
 {
-    let states = x.count as usize;
     let many = into.count as usize;
     let mut near: usize = 0;
+    let mut last: u64 = 0;
     let mut i = from;
-    while i < states {
+    while i < to {
         let s = state_in(file, index, x, rows, i);
         if applies(a, s) {
-            let k = find(file, index, into, rows, near, after(a, s));
-            if many <= k {
-                return i;
+            let t = after(a, s);
+            if (near == 0) | (t != last) {
+                let k = find(file, index, into, rows, near, t);
+                if many <= k {
+                    return i;
+                }
+                near = k + 1;
+                last = t;
             }
-            near = k + 1;
         }
         i += 1;
     }
@@ -180,14 +213,14 @@ fn one_shows(
 {
     let rows = by_rows(index);
     let into = states_after(right, r);
-    let count = x.count as usize;
-    let mut i = first_open(file, index, x, 0, into, rows, a);
+    let count = different(index, x, rows);
+    let mut i = first_open(file, index, x, 0, count, into, rows, a);
     while i < count {
         let s = state_in(file, index, x, rows, i);
         if shows_in(file, index, ends, left, m, right, r, anchor, a, s) {
             return true;
         }
-        i = first_open(file, index, x, i + 1, into, rows, a);
+        i = first_open(file, index, x, i + 1, count, into, rows, a);
     }
     false
 }

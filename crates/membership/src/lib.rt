@@ -100,7 +100,7 @@ fn among(file: &[u8], index: &Index, x: Span, s: u64) -> bool
     requires { ⌜ InOrder (now file) (now index) x ⌝ }
     ensures { λ b. ⌜ b ≡ member s (statesAt (now (file .entry)) (x .at) (x .count)) ⌝ }
 {
-    find(file, index, x, by_rows(index), 0, s) < x.count as usize
+    search(file, index, x, by_rows(index), 0, s) < x.count as usize
 }
 
 // Whether a state meets a clause.
