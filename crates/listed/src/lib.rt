@@ -173,6 +173,9 @@ fn first_open(
     ensures { λ r. ⌜ (r ≤ to) × (from ≤ r) × ((k : ℕ) → from ≤ k → k < r → Closed (now (file .entry)) into a (stateIn (now (file .entry)) (now (index .entry)) x k)) ⌝ }
 {
     let many = into.count as usize;
+    if many == 0 {
+        return from;
+    }
     let mut near: usize = 0;
     let mut last: u64 = 0;
     let mut i = from;

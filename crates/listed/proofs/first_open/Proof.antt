@@ -26,31 +26,34 @@ Inv-loop file index x from to into rows a many near₀ last₀ i₀ near last i 
 abbrev μ-loop : tie.MeasureT-loop
 μ-loop file index x from to into rows a many near₀ last₀ i₀ near last i = to - i
 
+returns : tie.Need-returns Inv-loop μ-loop
+returns c = let h = c .before .before .before .pre .3 in (search needs, search needs, λ k l h. absurd (omega arith))
+
 loop-holds : tie.Need-loop-holds Inv-loop μ-loop
-loop-holds c = let h = c .before .before .pre .3 in (search needs, search needs, (λ k l h. absurd (omega arith)), inl refl)
+loop-holds c = let h = c .before .before .before .pre .3 in (search needs, search needs, (λ k l h. absurd (omega arith)), inl refl)
 
 state-in-requires : tie.Need-state-in-requires Inv-loop μ-loop
-state-in-requires c κs = let p = c .before .before .before .before .pre in (p .0, p .2, search needs)
+state-in-requires c κs = let p = c .before .before .before .before .before .pre in (p .0, p .2, search needs)
 
 find-requires : tie.Need-find-requires Inv-loop μ-loop
-find-requires c κs = let p = c .before .before .before .before .before .before .before .before .before .pre in (p .1, p .2)
+find-requires c κs = let p = c .before .before .before .before .before .before .before .before .before .before .pre in (p .1, p .2)
 
-returns : tie.Need-returns Inv-loop μ-loop
-returns c = let v = c .before .before .before .before .before .before .before .before .loop .inv in (v .0, v .1, v .2)
+returns-2 : tie.Need-returns-2 Inv-loop μ-loop
+returns-2 c = let v = c .before .before .before .before .before .before .before .before .loop .inv in (v .0, v .1, v .2)
 
 -- what a turn finds of its state, and of the state that was found last
-abbrev Turned : tie.Joined1 Inv-loop μ-loop → Type 0
+abbrev Turned : tie.Joined2 Inv-loop μ-loop → Type 0
 Turned c =
-    let a = c .before .before .before .before .before .before .before .args in
+    let a = c .before .before .before .before .before .before .before .before .args in
     Closed (a .file .now) (a .into) (a .a) (c .before .before .state-in .result)
-    × ((c .if1 .near ≡ 0) ⊎ (member (c .if1 .last) (statesAt (a .file .now) (a .into .at) (a .into .count)) ≡ true))
+    × ((c .if2 .near ≡ 0) ⊎ (member (c .if2 .last) (statesAt (a .file .now) (a .into .at) (a .into .count)) ≡ true))
 
-turned : (c : tie.Joined1 Inv-loop μ-loop) → Turned c
+turned : (c : tie.Joined2 Inv-loop μ-loop) → Turned c
 turned c =
     let v = c .before .before .before .before .loop in
-    let a = c .before .before .before .before .before .before .before .args in
+    let a = c .before .before .before .before .before .before .before .before .args in
     let In : ℕ → Type 0 = λ t. member t (statesAt (a .file .now) (a .into .at) (a .into .count)) ≡ true in
-    elim (c .if1 .came) [
+    elim (c .if2 .came) [
       | inl w ↦
           let l : w .3 .result < a .into .count = omega (arith, w .4 .left) in
           let h : In (w .1 .result) =
@@ -69,7 +72,7 @@ turned c =
 loop-again : tie.Need-loop-again Inv-loop μ-loop
 loop-again c =
     let v = c .before .before .before .before in
-    let a = v .before .before .before .args in (
+    let a = v .before .before .before .before .args in (
       search needs,
       search needs,
       from-more (λ k. Closed (a .file .now) (a .into) (a .a) (stateIn (a .file .now) (a .index .now) (a .x) k)) (a .from) (v .loop .i)
@@ -77,8 +80,8 @@ loop-again c =
       turned c .1,
     )
 
-returns-2 : tie.Need-returns-2 Inv-loop μ-loop
-returns-2 c = let v = c .before .loop .inv in (v .0, v .1, v .2)
+returns-3 : tie.Need-returns-3 Inv-loop μ-loop
+returns-3 c = let v = c .before .loop .inv in (v .0, v .1, v .2)
 
 pub first-open-spec : {M : Type 1} → statement M
 first-open-spec =
@@ -87,14 +90,15 @@ first-open-spec =
     Inv-loop
     μ-loop
     (λ c. search needs)
+    returns
     loop-holds
     state-in-requires
     (λ c κs. search needs)
     (λ c κs. search needs)
     find-requires
-    returns
+    returns-2
     (λ c. search needs)
     (λ c. search needs)
     (λ c. search needs)
     loop-again
-    returns-2)
+    returns-3)
