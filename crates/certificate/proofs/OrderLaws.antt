@@ -131,7 +131,8 @@ module _ {bytes was : List ℕ} {count : ℕ} (t : Tabled bytes was count) where
             omega arith
         | no k ↦
             let q : d ≡ e = omega arith in
-            let r = subst (λ (c : ℕ). firstRow (states-of c .at) + states-of c .count ≤ firstRow (afterEntry bytes (getD was (256 + e) 0) + 3))
+            let r = subst
+            (λ (c : ℕ). firstRow (states-of c .at) + states-of c .count ≤ firstRow (afterEntry bytes (getD was (256 + e) 0) + 3))
             (sym q) (rows-end bytes (getD was (256 + e) 0)) in
             omega arith
       ]

@@ -87,7 +87,8 @@ module _ (bytes : List ℕ) (ends : Ends) (a : Action) (left : List ℕ) (m : �
 
 -- the states of the first right leaf are in order, and one that leads to them is not shown
 module _ (bytes : List ℕ) (right : List ℕ) (r : ℕ) (p : Span) where
-  pub states-ordered : (index : List ℕ) → length bytes ≤ 65536 → Readable bytes index right r → StatesAfter right r p → InOrder bytes index p
+  pub states-ordered : (index : List ℕ) → length bytes ≤ 65536 → Readable bytes index right r → StatesAfter right r p
+      → InOrder bytes index p
   states-ordered index short h (inl e) = rw e (none-in-order bytes index short)
   states-ordered index short h (inr (l, k, f)) = subst (Orderly bytes index) k (orderly-at bytes index right r h 0 l)
 

@@ -63,7 +63,8 @@ returns-4 : tie.Need-returns-4 Inv-loop μ-loop
 returns-4 c =
     let a = c .before .before .before .before .args in
     let l = c .before .loop in
-    items-done (clause (a .part .now) (a .n) (clauseRule (a .two))) 16 (length (a .part .now) / 16) (a .start) (l .i) (16 * l .i) (l .inv .1)
+    items-done (clause (a .part .now) (a .n) (clauseRule (a .two))) 16 (length (a .part .now) / 16) (a .start) (l .i) (16 * l .i)
+    (l .inv .1)
     (search needs)
 
 pub clauses-spec : {M : Type 1} → statement M

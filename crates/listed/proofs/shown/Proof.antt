@@ -61,8 +61,8 @@ returns-explicit : tie.Need-returns-4
 returns-explicit c =
     let v = c .before .before .before .before in
     let p = v .before .before .before .before .pre .0 in
-    shown-some _ _ _ _ _ _ _ _ (p .0) (p .1) (p .2) (p .3) _ _ (in-order (c .before .before)) (set-is v _ (c .before .before .set .given .1))
-    (c .one-shows .ensures)
+    shown-some _ _ _ _ _ _ _ _ (p .0) (p .1) (p .2) (p .3) _ _ (in-order (c .before .before))
+    (set-is v _ (c .before .before .set .given .1)) (c .one-shows .ensures)
 
 pub shown-spec : {M : Type 1} → statement M
 shown-spec =

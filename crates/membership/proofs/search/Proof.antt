@@ -3,9 +3,7 @@
 -- Assumes nothing.
 use Prim.Native.Nat.{ℕ, _+_, _-_, _≤_, _<_, _^_}
 use native.Mathlib.Omega.{arith}
-use mathlib.Core.Path.{_≡_}
 use borrow.Author.Needs.{needs}
-use Rattle.certificate.specs.Rows.{stateIn}
 use Rattle.membership.proofs.SearchLaws.{Bracket, bracket-start, bracket-up, bracket-down, search-found, search-missed}
 use Rattle.membership.proofs.search.Statement.{statement}
 use Rattle.membership.proofs.search.Tie as tie

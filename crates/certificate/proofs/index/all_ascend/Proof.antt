@@ -1,7 +1,7 @@
 -- `index::all_ascend` meets its contract. The invariant: the states of the first `e` sets ascend.
 -- Assumes nothing.
-use mathlib.Core.Path.{_≡_, subst, sym}
-use Prim.Native.Nat.{ℕ, _+_, _-_, _*_, _≤_}
+use mathlib.Core.Path.{subst, sym}
+use Prim.Native.Nat.{_+_, _-_, _*_, _≤_}
 use native.Mathlib.Omega.{arith}
 use lib.ListN.{length}
 use lib.Dec.{T}

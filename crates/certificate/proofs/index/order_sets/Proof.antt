@@ -1,7 +1,7 @@
 -- `index::order_sets` meets its contract. The invariant: the rows of the first `e` sets are there.
 -- Assumes nothing.
 use mathlib.Core.Path.{_≡_, ap, subst, sym, _∙_}
-use Prim.Native.Nat.{ℕ, _+_, _-_, _≤_}
+use Prim.Native.Nat.{ℕ, _-_, _≤_}
 use native.Mathlib.Omega.{arith}
 use borrow.Author.Needs.{needs}
 use Rattle.sorting.specs.Rows.{Room, Ordered, Kept}

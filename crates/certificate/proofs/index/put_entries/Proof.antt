@@ -39,8 +39,9 @@ returns-2 : tie.Need-returns-2
 returns-2 c =
     let d = c .before .before .before .before .before in
     let p = d .before .before .before .before .before .before .before .before .pre in
+    let b = c .before .all-ascend .result in
     known-ascending (p .0) (p .1) (p .2) (d .before .before .before .before .index-entries .ensures) (d .index-entries2 .ensures)
-    (c .before .all-ascend .ensures .0 (holds {b = c .before .all-ascend .result} (not-false (c .before .all-ascend .result) (c .if1 .left))))
+    (c .before .all-ascend .ensures .0 (holds {b = b} (not-false b (c .if1 .left))))
 
 pub put-entries-spec : {M : Type 1} → statement M
 put-entries-spec =
