@@ -162,7 +162,7 @@ module _ {A : Type 0} (bytes : List ℕ) {kinds : List (Kind A)} {j : ℕ} where
   ascending-holds : (size most bound : ℕ) → 0 < size → suc (size * most) < 65536 → (read : ℕ → Result ℕ)
       → Back bytes (λ a. a < bound) (bytesOf size) read
       → (make : List ℕ → A) → getElem? kinds j ≡ some
-      (record { fits = upTo size most; allowed = λ _. true; body = λ p len. ascending read size 0 p (len / size) >>= λ xs. found (make xs) })
+      (record { fits = upTo size most; allowed = λ _. true; body = λ p k. ascending read size 0 p (k / size) >>= λ xs. found (make xs) })
       → (xs : List ℕ) → (length xs ≤ most) × Ascending 0 xs × All (λ a. a < bound) xs
       → Holds bytes kinds j (each (bytesOf size) xs) (make xs)
   ascending-holds size most bound some-size small read back make e xs h =
