@@ -5,11 +5,12 @@ use mathlib.Core.Path.{_≡_, refl, sym, ap, ap₂, _∙_}
 use native.Mathlib.Omega.{arith}
 use native.Mathlib.Decide.{decLt}
 use native.Mathlib.Nat.{div-one, div-div-eq-div-mul, pow-suc, mul-comm, zero-div, div-eq-of-lt, lt-of-le-of-lt, sub-le, min-eq-right}
-use lib.Arith.{bin-ind}
+use lib.Arith.{bin-ind, lt-one}
 use lib.Pow.{pow-mono}
 use lib.Bits.{bitAnd, bitOr, and-step, or-step, and-shr, or-shr, or-lt, and-le-l}
+use lib.Count.{ones, ones-step}
 use lib.Dec.{T, eqb→eq}
-use Rattle.task.specs.Facts.{allOn, without}
+use Rattle.task.specs.Facts.{allOn, without, onesIn}
 use Rattle.task.specs.Task.{after}
 use Rattle.task.specs.Inner.{bit}
 use Rattle.task.specs.declared.Action.{Action}
@@ -108,6 +109,13 @@ without-and k s c h l =
       | yes m ↦ omega (arith, bit-and f s (2 ^ k - 1 - c), bit-not k f c l m, bit-without f s c)
       | no m ↦ omega (arith, bit-and f s (2 ^ k - 1 - c), bit-high k f s h (omega arith), bit-without f s c)
     ])
+
+-- ---- how many facts a mask has: the ones of a word
+
+pub ones-are : (k m : ℕ) → m < 2 ^ k → ones m ≡ onesIn k m
+unfolding ones onesIn
+ones-are zero m h = ap ones (lt-one h)
+ones-are (suc k) m h = ones-step m ∙ ap (λ (x : ℕ). m % 2 + x) (ones-are k (m / 2) (omega (arith, pow-suc 2 k)))
 
 -- ---- every fact of m is on in s
 

@@ -1,5 +1,5 @@
 -- The states within reach as a list: it grows by one new state at a time and ends closed, since at most k are within reach.
--- Only `new-init` knows which states are initial.
+-- Only `new-init` knows more of the initial states than their name: none is above a bound.
 -- Assumes nothing.
 use mathlib.Core.Path.{_≡_, refl, subst, sym}
 use mathlib.Core.Logic.{_⊎_, inl, inr, _↔_}
@@ -12,8 +12,8 @@ use lib.ListN.{length}
 use lib.Dec.{T}
 use Rattle.task.specs.Task.{Task, actionAt, isInit, next, run}
 use Rattle.task.specs.Reach.{member, distinct, Sequence, Reachable, AtMostReachable}
-use Rattle.task.proofs.Tests.{excluded, member-none, member-first, member-rest, member-cases, distinct-none, distinct-more}
-use Rattle.task.proofs.Moves.{init-is, init-holds, reach-init, reach-next}
+use Rattle.task.proofs.Tests.{excluded, never, member-none, member-first, member-rest, member-cases, distinct-none, distinct-more}
+use Rattle.task.proofs.Moves.{init-at-most, reach-init, reach-next}
 
 -- ---- of two cases at each number, the first holds somewhere or the second everywhere
 
@@ -43,12 +43,19 @@ module _ {P Q : ℕ → Type 0} (case : (x : ℕ) → P x ⊎ Q x) where
 -- ---- the list grows
 
 module _ (t : Task) where
+  lacks-init : (l : List ℕ) (s : ℕ) → (T (isInit t s) × T (not (member s l))) ⊎ (T (isInit t s) → T (member s l))
+  lacks-init l s =
+      elim (excluded (isInit t s)) [
+        | inl i ↦ elim (excluded (member s l)) [ inl m ↦ inr (λ _. m) | inr n ↦ inl (i, n) ]
+        | inr n ↦ inr (λ i. absurd (never (isInit t s) i n))
+      ]
+
   -- an initial state that the list lacks, or it holds them all
   new-init : (l : List ℕ) → ((s : ℕ) × T (isInit t s) × T (not (member s l))) ⊎ ((s : ℕ) → T (isInit t s) → T (member s l))
   new-init l =
-      elim (excluded (member (t .init) l)) [
-        | inl m ↦ inr (λ s h. subst (λ (x : ℕ). T (member x l)) (sym (init-is t s h)) m)
-        | inr n ↦ inl (t .init, init-holds t, n)
+      elim (search-below (λ s. lacks-init l s) (suc (t .init + t .unknown))) [
+        | inl w ↦ inl (w .0, w .2 .0, w .2 .1)
+        | inr a ↦ inr (λ s h. a s (let u = init-at-most t s h in omega arith) h)
       ]
 
   -- it holds every initial state, and where each action leads from each of its states

@@ -1,19 +1,24 @@
 -- The task as a transition system: its sequences are paths, so what holds of all paths holds of all sequences.
--- Only `bounded` and the two laws before it know which states are initial; the rest goes by the names isInit, isGoal, applies, after.
+-- Only `bounded` and the law before it know which states are initial; the rest goes by the names isInit, isGoal, applies, after.
 -- Assumes nothing.
 use mathlib.Core.Path.{_≡_, refl, subst, sym, ap, _∙_}
 use mathlib.Core.Logic.{_⊎_, inl, inr}
-use Prim.Native.Nat.{ℕ, _^_, _<_}
+use Prim.Native.Nat.{ℕ, _+_, _^_, _≤_, _<_}
+use native.Mathlib.Nat.{lt-of-le-of-lt}
+use native.Mathlib.Omega.{arith}
 use mathlib.Core.Bool.{Bool, true, false, not}
 use mathlib.Core.List.{List, [], _∷_, _++_}
 use lib.ListN.{length}
-use lib.Dec.{T, eqb→eq, eqb-refl}
+use lib.Bits.{bitAnd, bitOr, or-lt, and-le-l, and-le-r}
+use lib.Dec.{T, eqb→eq}
+use Rattle.task.specs.Facts.{without}
+use Rattle.task.specs.Inner.{bit}
 use Rattle.task.specs.Task.{Task, actionAt, isInit, isGoal, applies, after, next, run, trace}
 use Rattle.task.specs.Reach.{member, Sequence, Safe, Unsolvable, Dead, Reachable}
 use Rattle.task.specs.System.{System, Path, here, move, DeadIn, UnsolvableIn}
 use Rattle.task.specs.declared.Action.{Action}
 use Rattle.task.proofs.Tests.{not-of, every-at, every-of, member-none, member-first, member-rest, member-cases}
-use Rattle.task.proofs.Bits.{after-lt}
+use Rattle.task.proofs.Bits.{bit-le, bit-and, bit-or, same-bits, bit-without, without-lt, after-lt}
 
 -- ---- the initial states and the actions stay within the facts of the task
 
@@ -21,18 +26,33 @@ pub record Bounded (t : Task) : Type 0 where
   pub init : (s : ℕ) → T (isInit t s) → s < 2 ^ t .facts
   pub after : (i s : ℕ) → i < length (t .actions) → s < 2 ^ t .facts → after (actionAt t i) s < 2 ^ t .facts
 
--- the initial state is the one that the task names
-pub init-is : (t : Task) (s : ℕ) → T (isInit t s) → s ≡ t .init
+-- an initial state is the start with some of the unknown facts on and the others off
+pub init-is : (t : Task) (s : ℕ) → T (isInit t s) → s ≡ bitOr (without (t .init) (t .unknown)) (bitAnd s (t .unknown))
 unfolding isInit
-init-is t s h = eqb→eq s (t .init) h
+init-is t s h =
+    same-bits s _ (λ f.
+    let i = ap (bit f) (eqb→eq (without s (t .unknown)) (without (t .init) (t .unknown)) h) in
+    omega (
+      arith,
+      bit-or f (without (t .init) (t .unknown)) (bitAnd s (t .unknown)),
+      bit-and f s (t .unknown),
+      bit-without f s (t .unknown),
+      bit-le f s,
+      bit-le f (t .unknown),
+    ))
 
-pub init-holds : (t : Task) → T (isInit t (t .init))
-unfolding isInit
-init-holds t = eqb-refl (t .init)
+pub init-at-most : (t : Task) (s : ℕ) → T (isInit t s) → s ≤ t .init + t .unknown
+unfolding isInit without
+init-at-most t s h =
+    let e = eqb→eq (without s (t .unknown)) (without (t .init) (t .unknown)) h in
+    omega (arith, and-le-l s (t .unknown), and-le-r s (t .unknown))
 
-pub bounded : (t : Task) → t .init < 2 ^ t .facts → ((i : ℕ) → i < length (t .actions) → actionAt t i .add < 2 ^ t .facts) → Bounded t
-bounded t h k = record {
-  init = λ s e. subst (λ (x : ℕ). x < 2 ^ t .facts) (sym (init-is t s e)) h;
+pub bounded : (t : Task) → t .init < 2 ^ t .facts → t .unknown < 2 ^ t .facts
+    → ((i : ℕ) → i < length (t .actions) → actionAt t i .add < 2 ^ t .facts) → Bounded t
+bounded t h u k = record {
+  init = λ s e.
+      subst (λ (x : ℕ). x < 2 ^ t .facts) (sym (init-is t s e))
+      (or-lt (t .facts) _ _ (without-lt (t .facts) (t .init) (t .unknown) h) (lt-of-le-of-lt (and-le-r s (t .unknown)) u));
   after = λ i s l m. after-lt (t .facts) (actionAt t i) s m (k i l);
 }
 

@@ -2,8 +2,8 @@
 -- Assumes nothing.
 use Prim.Native.Nat.{ℕ, _/_, _%_, _^_}
 use mathlib.Core.Bool.{Bool}
-use lib.Dec.{eqb}
-use Rattle.task.specs.Facts.{allOn}
+use lib.Dec.{leb, eqb}
+use Rattle.task.specs.Facts.{allOn, without, onesIn}
 use Rattle.task.specs.Task.{Task}
 use Rattle.task.specs.declared.Action.{Action}
 use Rattle.task.specs.declared.Ends.{Ends}
@@ -19,12 +19,16 @@ has m f = eqb (bit f m) 1
 unfoldable pub noAction : Action
 noAction = record { pre = 0; add = 0; del = 0 }
 
--- a task's ends; `isInit` and `isGoal` by them
+-- a task's ends; `isInit`, which tasks have few initial states, and `isGoal` by them
 unfoldable pub endsOf : Task → Ends
-endsOf t = record { facts = t .facts; init = t .init; goal = t .goal }
+endsOf t = record { facts = t .facts; init = t .init; unknown = t .unknown; goal = t .goal }
 
 unfoldable pub atInit : Ends → ℕ → Bool
-atInit e s = eqb s (e .init)
+atInit e s = eqb (without s (e .unknown)) (without (e .init) (e .unknown))
+
+-- at most 12 facts are unknown
+unfoldable pub fewUnknown : Ends → Bool
+fewUnknown e = leb (onesIn 64 (e .unknown)) 12
 
 unfoldable pub atGoal : Ends → ℕ → Bool
 atGoal e s = allOn (e .goal) s

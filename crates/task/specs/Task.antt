@@ -13,6 +13,8 @@ pub record Task : Type 0 where
   pub facts : ℕ
   -- document 01: the start
   pub init : ℕ
+  -- document 02, d: the facts that may be on or off there
+  pub unknown : ℕ
   -- document 01: the forbidden mask
   pub goal : ℕ
   pub actions : List Action
@@ -21,8 +23,9 @@ pub record Task : Type 0 where
 unfoldable pub actionAt : Task → ℕ → Action
 actionAt t i = getD (t .actions) i (record { pre = 0; add = 0; del = 0 })
 
+-- the state agrees with the start on the facts that are known there
 unfoldable pub isInit : Task → ℕ → Bool
-isInit t s = eqb s (t .init)
+isInit t s = eqb (without s (t .unknown)) (without (t .init) (t .unknown))
 
 -- forbidden: every fact of the mask is on
 unfoldable pub isGoal : Task → ℕ → Bool

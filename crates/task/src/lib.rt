@@ -3,7 +3,7 @@ ghost use mathlib.Core.Path.{_≡_};
 ghost use Prim.Native.Nat.{_-_, _^_, min};
 ghost use Rattle.task.specs.Facts.{allOn};
 ghost use Rattle.task.specs.Task.{applies, after};
-ghost use Rattle.task.specs.Inner.{atInit, atGoal};
+ghost use Rattle.task.specs.Inner.{atInit, fewUnknown, atGoal};
 
 // An action: the facts it needs, those it adds and those it deletes.
 // Document 01 calls it an event, with needs, sets and clears.
@@ -13,11 +13,12 @@ pub struct Action {
     pub del: u64,
 }
 
-// The task's ends: over so many facts, the initial state and the goal's mask.
-// Document 01 calls them the start and the forbidden mask.
+// The task's ends: over so many facts, an initial state, the facts that may be on or off there, and the goal's mask.
+// Document 01 calls them the start and the forbidden mask, with document 02's unknown mask between them.
 pub struct Ends {
     pub facts: u8,
     pub init: u64,
+    pub unknown: u64,
     pub goal: u64,
 }
 
@@ -28,11 +29,18 @@ pub fn all_on(mask: u64, state: u64) -> bool
     state & mask == mask
 }
 
-// Whether a state is the initial one.
+// Whether a state is an initial one: it agrees with the one that is named on all known facts.
 pub fn is_init(ends: Ends, state: u64) -> bool
     ensures { λ r. ⌜ r ≡ atInit ends state ⌝ }
 {
-    state == ends.init
+    state & !ends.unknown == ends.init & !ends.unknown
+}
+
+// Whether the initial states are few enough to be tried one by one: at most 12 facts are unknown.
+pub fn few_unknown(ends: Ends) -> bool
+    ensures { λ r. ⌜ r ≡ fewUnknown ends ⌝ }
+{
+    u64::count_ones(ends.unknown) <= 12
 }
 
 // Whether a state is one of the goal's.

@@ -1,13 +1,13 @@
 -- `task::is_init` meets its contract.
 -- Assumes nothing.
 use borrow.Author.Needs.{needs}
-use Rattle.task.specs.Inner.{atInit}
+use Rattle.task.proofs.Names.{init-code}
 use Rattle.task.proofs.is_init.Statement.{statement}
 use Rattle.task.proofs.is_init.Tie as tie
 
 returns : tie.Need-returns
-unfolding atInit
-returns c = search needs
+returns c =
+    init-code 64 (c .before .before .before .args .ends) (c .before .before .before .args .state) (search needs) (search needs) (search needs)
 
 pub is-init-spec : {M : Type 1} → statement M
 is-init-spec = tie.close (tie.spec returns)
