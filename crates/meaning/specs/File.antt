@@ -12,7 +12,7 @@ pub data ActionSet : Type 0 where
   listed : List ℕ → ActionSet
   either : ℕ → ℕ → ActionSet
 
--- kinds 0 to 5: the empty set, the start alone, the forbidden states, listed states, and two sorts of clauses
+-- kinds 0 to 5: the empty set, the initial states, the forbidden states, listed states, and two sorts of clauses
 pub data Basic : Type 0 where
   empty init goal : Basic
   explicit : List ℕ → Basic
@@ -33,6 +33,7 @@ pub record Step : Type 0 where
   pub premises : List ℕ
 
 pub record File : Type 0 where
+  pub version : ℕ
   pub task : Task
   pub actionSets : List ActionSet
   pub stateSets : List StateSet

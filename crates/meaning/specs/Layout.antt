@@ -1,10 +1,13 @@
--- How a file is read, front to back, with replies 1 to 7 at the written places and in the written order, and 19 for a check's own limits.
+-- How a file is read, front to back, with replies 1 to 7 and 16 at the written places and in the written order, and 19 for a check's own
+-- limits.
 -- Assumes nothing.
 use Prim.Native.Nat.{ℕ, zero, suc, _+_, _-_, _*_, _/_, _%_, _^_}
-use mathlib.Core.Bool.{Bool, true, _&&_}
+use mathlib.Core.Bool.{Bool, true, false, _&&_, _||_}
 use mathlib.Core.List.{List, [], _∷_}
 use lib.ListN.{length, getElem?}
 use lib.Dec.{leb, ltb, eqb}
+use lib.Bits.{bitAnd}
+use Rattle.task.specs.Facts.{onesIn}
 use Rattle.task.specs.Task.{Task}
 use Rattle.task.specs.declared.Action.{Action}
 use Rattle.meaning.specs.declared.Clause.{Clause}
@@ -15,11 +18,6 @@ use Rattle.meaning.specs.Limits.{full}
 use Rattle.meaning.specs.File.{ActionSet, all, listed, either, Basic, empty, init, goal, explicit, horn, twoCnf, StateSet, basic, complement, intersection, union, progression, regression, Step, File}
 
 -- ---- clauses
-
--- how many of the first k facts a mask has
-unfoldable pub onesIn : ℕ → ℕ → ℕ
-onesIn zero m = 0
-onesIn (suc k) m = m % 2 + onesIn k (m / 2)
 
 -- at most one positive fact
 unfoldable pub hornRule : ℕ → ℕ → Bool
@@ -47,6 +45,24 @@ ascending read size low p (suc k) = do
   _ ← need (leb low x) 7 p
   xs ← ascending read size (suc x) (p + size) k
   found (x ∷ xs)
+
+-- ---- places that depend on the version
+
+-- the goal's mask, which stands behind the start or behind the unknown facts
+unfoldable pub goalAt : ℕ → ℕ
+goalAt v = elim (eqb v 1) [ true ↦ 14 | false ↦ 22 ]
+
+-- the count of the actions, behind it
+unfoldable pub actionCountAt : ℕ → ℕ
+actionCountAt v = goalAt v + 8
+
+-- how long an action is
+unfoldable pub actionSize : ℕ → ℕ
+actionSize v = 24
+
+-- the place after m actions
+unfoldable pub afterActions : ℕ → ℕ → ℕ
+afterActions v m = actionCountAt v + 2 + actionSize v * m
 
 -- ---- fields
 
@@ -207,20 +223,33 @@ module _ (bytes : List ℕ) where
     r ← entries kinds (suc i) (p + 2 + number 2 bytes p) k
     found (x ∷ r .0, r .1)
 
-  -- ---- the file
+  -- ---- the task
+
+  -- the facts that may be on or off at the start s, of n facts: 16 where one of them is on there; in version 1 there are none
+  unfoldable pub unknownMask : ℕ → ℕ → ℕ → Result ℕ
+  unknownMask v n s = elim (eqb v 1) [
+    | true ↦ found 0
+    | false ↦ do
+      u ← mask bytes n 14
+      _ ← need (eqb (bitAnd s u) 0) 16 14
+      found u
+  ]
 
   -- the fields from the version up to and with the actions, and the place after them
   unfoldable pub readTask : Result (Task × ℕ)
   readTask = do
     v ← field bytes 1 4
-    _ ← need (eqb v 1) 2 4
+    _ ← need (eqb v 1 || eqb v 2) 2 4
     n ← field bytes 1 5
     _ ← need (leb 1 n && leb n 64) 4 5
     s ← mask bytes n 6
-    g ← mask bytes n 14
-    m ← count bytes 0 256 22
-    acts ← items (action bytes n) 24 24 m
-    found (record { facts = n; init = s; goal = g; actions = acts }, 24 + 24 * m)
+    u ← unknownMask v n s
+    g ← mask bytes n (goalAt v)
+    m ← count bytes 0 256 (actionCountAt v)
+    acts ← items (action bytes n) (actionSize v) (actionCountAt v + 2) m
+    found (record { facts = n; init = s; unknown = u; goal = g; actions = acts }, afterActions v m)
+
+-- ---- the file
 
 -- a file, by a check with limits of its own
 unfoldable pub readWithin : Limits → List ℕ → Result File
@@ -237,7 +266,7 @@ readWithin l bytes = do
   _ ← need (leb kc (l .steps)) 19 (ss .1)
   ks ← items (step bytes) 12 (ss .1 + 2) kc
   _ ← need (leb (length bytes) (ss .1 + 2 + 12 * kc)) 3 (ss .1 + 2 + 12 * kc)
-  found (record { task = t .0; actionSets = es .0; stateSets = ss .0; steps = ks })
+  found (record { version = number 1 bytes 4; task = t .0; actionSets = es .0; stateSets = ss .0; steps = ks })
 
 -- by document 01's limits
 unfoldable pub readFile : List ℕ → Result File

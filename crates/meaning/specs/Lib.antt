@@ -18,6 +18,7 @@ pub mod Rounds
 pub mod Structure
 pub mod Small
 pub mod Relisted
+pub mod Versions
 pub mod Cases
 pub mod Certain
 pub mod Points

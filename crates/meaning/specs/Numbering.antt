@@ -51,6 +51,7 @@ withRule r s = record { rule = r; kind = s .kind; left = s .left; right = s .rig
 -- the file with each step's rule byte x rewritten as g x
 unfoldable pub rewritten : (ℕ → ℕ) → File → File
 rewritten g f = record {
+  version = f .version;
   task = f .task;
   actionSets = f .actionSets;
   stateSets = f .stateSets;

@@ -7,8 +7,8 @@ use mathlib.Core.Option.{none, some}
 use Prim.Native.Nat.{ℕ, zero, suc, _+_, _-_, _*_, _≤_, _<_}
 use mathlib.Core.List.{List, [], _∷_, _++_, map}
 use lib.ListN.{length, take, drop, replicate, getElem?}
-use lib.Dec.{T, leb}
-use Rattle.task.specs.Task.{Task}
+use lib.Dec.{T, leb, eqb}
+use Rattle.task.specs.Task.{Task, isInit}
 use Rattle.task.specs.Reach.{member, every, Safe, Unsolvable, Dead, Reachable, AtMostReachable}
 use Rattle.task.specs.System.{System, States, Actions}
 use Rattle.meaning.specs.Result.{found}
@@ -16,9 +16,10 @@ use Rattle.meaning.specs.Bytes.{number, AreBytes}
 use Rattle.meaning.specs.File.{File, stepAt}
 use Rattle.meaning.specs.declared.Limits.{Limits}
 use Rattle.meaning.specs.Limits.{full, small}
-use Rattle.meaning.specs.Layout.{readWithin, readFile}
+use Rattle.meaning.specs.Layout.{readTask, readWithin, readFile}
 use Rattle.meaning.specs.Writing.{All, fileOf, writeFile, Fits, FitsSize, Lawful}
 use Rattle.meaning.specs.Sets.{inSet, statesWithin, actionsWithin}
+use Rattle.meaning.specs.Shapes.{listsInit}
 use Rattle.meaning.specs.Rules.{letter, rules}
 use Rattle.meaning.specs.Match.{Letters, match}
 use Rattle.meaning.specs.Truth.{SoundRules}
@@ -36,6 +37,7 @@ use Rattle.meaning.specs.Small.{replyWithin, replySmall, breaches, Befor
 use Rattle.meaning.specs.Structure.{stateSetCount}
 use Rattle.meaning.specs.Relisted.{wrongIn, InState, Relisted}
 use Rattle.meaning.specs.Cases.{Case, cases, word, sample, fileBytes, explicit012, stepBytes, firstSteps, allSteps}
+use Rattle.meaning.specs.Versions.{readTask₁, twin, movedReply, movedRound, movedAnswer}
 use Rattle.meaning.specs.Certain.{certificateOf}
 
 -- The sample has 234 bytes, and each of the twelve cases has its reply.
@@ -107,12 +109,18 @@ Shortcut =
     (bytes : List ℕ) (f : File) → readFile bytes ≡ found f
     → (e : ℕ) → not (hasProgression f e) && leb (depth f e) 4 ≡ shallow f e 4
 
--- Document 01's numbers: a refusal of a file is 1 to 12, and of a question 1 to 7 or 13.
+-- A refusal of a file is one of document 01's 1 to 12, or 16; and of a question one of the layout's, 1 to 7 or 16, or 13.
+abbrev pub OfFile : ℕ → Type 0
+OfFile r = ((1 ≤ r) × (r ≤ 12)) ⊎ (r ≡ 16)
+
+abbrev pub OfLayout : ℕ → Type 0
+OfLayout r = ((1 ≤ r) × (r ≤ 7)) ⊎ (r ≡ 16)
+
 abbrev pub RefusalNumbers : Type 0
-RefusalNumbers = (bytes : List ℕ) (r p : ℕ) → replyOf bytes ≡ Refused r p → (1 ≤ r) × (r ≤ 12)
+RefusalNumbers = (bytes : List ℕ) (r p : ℕ) → replyOf bytes ≡ Refused r p → OfFile r
 
 abbrev pub AnswerNumbers : Type 0
-AnswerNumbers = (bytes : List ℕ) (e s r p : ℕ) → answerOf bytes e s ≡ answer.Refused r p → ((1 ≤ r) × (r ≤ 7)) ⊎ (r ≡ 13)
+AnswerNumbers = (bytes : List ℕ) (e s r p : ℕ) → answerOf bytes e s ≡ answer.Refused r p → OfLayout r ⊎ (r ≡ 13)
 
 -- ---- document 02, i: a caller's own rule numbers
 
@@ -160,7 +168,7 @@ NumberedIsSafe =
 
 -- A refusal is one of a file, or 18 of the list.
 abbrev pub NumberedRefusals : Type 0
-NumberedRefusals = (bytes numbers : List ℕ) (r p : ℕ) → replyNumbered bytes numbers ≡ Refused r p → ((1 ≤ r) × (r ≤ 12)) ⊎ (r ≡ 18)
+NumberedRefusals = (bytes numbers : List ℕ) (r p : ℕ) → replyNumbered bytes numbers ≡ Refused r p → OfFile r ⊎ (r ≡ 18)
 
 -- ---- document 02, f: a check in rounds
 
@@ -254,7 +262,7 @@ QuestionsBetween =
 abbrev pub RoundRefusals : Type 0
 RoundRefusals =
     (bytes : List ℕ) (from count r p : ℕ) → roundOf bytes from count ≡ round.Refused r p
-    → ((1 ≤ r) × (r ≤ 12)) ⊎ ((r ≡ 17) × (p ≡ 0))
+    → OfFile r ⊎ ((r ≡ 17) × (p ≡ 0))
 
 -- ---- document 02, l: the same check with smaller limits
 
@@ -316,7 +324,7 @@ LimitCases =
 
 -- A refusal is one of a file, or 19.
 abbrev pub LimitRefusals : Type 0
-LimitRefusals = (l : Limits) (bytes : List ℕ) (r p : ℕ) → replyWithin l bytes ≡ Refused r p → ((1 ≤ r) × (r ≤ 12)) ⊎ (r ≡ 19)
+LimitRefusals = (l : Limits) (bytes : List ℕ) (r p : ℕ) → replyWithin l bytes ≡ Refused r p → OfFile r ⊎ (r ≡ 19)
 
 -- ---- document 02, b: explicit states in any order, with repeats
 
@@ -367,3 +375,36 @@ OrderCases =
     × (replyOf (fileBytes 1 2 0 (0 ∷ 25 ∷ 3 ∷ word 0 ++ word 9 ++ word 4) 3 0 allSteps) ≡ Refused 5 99)
     × (replyWithin (record { size = 65536; states = 3; steps = 8 })
     (fileBytes 1 2 0 (0 ∷ 33 ∷ 3 ∷ word 1 ++ word 2 ++ word 0 ++ word 1) 3 0 allSteps) ≡ Refused 19 88)
+
+-- ---- document 02, d: facts that may be on or off at the start
+
+-- Version 1 is read as document 01 says, byte for byte. No fact is unknown, so the start is the one initial state, and kind 1 gives leave
+-- as ever: no other definition has changed.
+abbrev pub VersionOne : Type 0
+VersionOne =
+    ((bytes : List ℕ) → number 1 bytes 4 ≡ 1 → readTask bytes ≡ readTask₁ bytes)
+    × ((t : Task) → t .unknown ≡ 0 → (s : ℕ) → isInit t s ≡ eqb s (t .init))
+    × ((f : File) → f .task .unknown ≡ 0 → T (listsInit f))
+
+-- A version 2 file with a zero mask gets its version 1 twin's reply, byte places from 14 on moved by 8, where these 8 bytes do not bring it
+-- past the limits; and so do a round, a question and a check with a caller's own rule numbers.
+abbrev pub SameAsTwin : {R : Type 0} → Limits → (R → R) → (List ℕ → R) → Type 0
+SameAsTwin l moved said =
+    (bytes : List ℕ) → AreBytes bytes → 14 ≤ length bytes → number 1 bytes 4 ≡ 1 → FitsSize l (length bytes + 8)
+    → said (twin bytes) ≡ moved (said bytes)
+
+abbrev pub TwinReplies : Type 0
+TwinReplies = (l : Limits) → SameAsTwin l movedReply (replyWithin l)
+
+abbrev pub TwinChecks : Type 0
+TwinChecks =
+    SameAsTwin full movedReply replyOf
+    × ((numbers : List ℕ) → SameAsTwin full movedReply (λ bytes. replyNumbered bytes numbers))
+    × ((from count : ℕ) → SameAsTwin full movedRound (λ bytes. roundOf bytes from count))
+    × ((e s : ℕ) → SameAsTwin full movedAnswer (λ bytes. answerOf bytes e s))
+
+-- The twin of a version 1 file is such a file, and each of them is the twin of one.
+abbrev pub TwinForm : Type 0
+TwinForm =
+    (bytes : List ℕ) → AreBytes bytes → 22 ≤ length bytes → number 1 bytes 4 ≡ 2 → number 8 bytes 14 ≡ 0 → number 4 bytes 0 + 4 ≡ length bytes
+    → (a : List ℕ) × (number 1 a 4 ≡ 1) × (length a + 8 ≡ length bytes) × (twin a ≡ bytes)

@@ -5,6 +5,7 @@ use mathlib.Core.Bool.{Bool, true, false, not, _&&_, _||_}
 use mathlib.Core.List.{List, [], _∷_, _++_, map}
 use lib.ListN.{length}
 use lib.Dec.{leb, eqb}
+use Rattle.task.specs.Facts.{onesIn}
 use Rattle.task.specs.Reach.{member, every}
 use Rattle.meaning.specs.File.{File, stateSetAt, stateKind, first, second}
 use Rattle.meaning.specs.Sets.{settled}
@@ -92,11 +93,15 @@ module _ (f : File) where
       not (member 3 (used x)) && not (member 4 (used x) && member 5 (used x))
       && leb (length (keep (λ k. not (eqb k 0)) (movedRight x))) 2
 
-  -- explicit: a leaf of kind 0, 1 or 3 stands among the anchors
+  -- kind 1 lists its states: at most 12 facts are unknown
+  unfoldable pub listsInit : Bool
+  listsInit = leb (onesIn 64 (f .task .unknown)) 12
+
+  -- explicit: a leaf of kind 0 or 3, or of kind 1 where it lists its states, stands among the anchors
   unfoldable pub ofStates : List ℕ → Sides → Bool
   ofStates anchors x =
       member 3 (used x) && not (member 4 (used x)) && not (member 5 (used x))
-      && (member 0 anchors || member 1 anchors || member 3 anchors)
+      && (member 0 anchors || (member 1 anchors && listsInit) || member 3 anchors)
 
   unfoldable pub permitted : (Sides → List ℕ) → Sides → Bool
   permitted anchors x = ofLiterals x && (ofClauses x || ofStates (anchors x) x)

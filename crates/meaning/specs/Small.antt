@@ -41,7 +41,7 @@ module _ (bytes : List ℕ) where
       ++ longLists (l .states) (stateSetCount bytes + 2) (number 2 bytes (stateSetCount bytes))
       ++ above (l .steps) (number 2 bytes (stepCount bytes)) (stepCount bytes)
 
--- place p comes before what a reply refuses, if anything: a refusal from 8 on is of a step, and comes after the whole layout
+-- place p comes before what a reply refuses, if anything: a refusal from 8 to 12 is of a step, and comes after the whole layout
 abbrev pub Before : ℕ → Reply → Type 0
 Before p Accepted = Unit {0}
-Before p (Refused r q) = (8 ≤ r) ⊎ (p < q)
+Before p (Refused r q) = ((8 ≤ r) × (r ≤ 12)) ⊎ (p < q)

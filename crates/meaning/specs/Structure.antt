@@ -1,10 +1,11 @@
--- Where the parts of a file stand, by its lengths, counts and kinds alone: nothing is read in between.
+-- Where the parts of a file stand, by its version, lengths, counts and kinds alone: nothing is read in between.
 -- Assumes nothing.
-use Prim.Native.Nat.{ℕ, zero, suc, _+_, _-_, _*_, _/_}
+use Prim.Native.Nat.{ℕ, zero, suc, _+_, _-_, _/_}
 use mathlib.Core.Bool.{true, false}
 use mathlib.Core.List.{List}
 use lib.Dec.{eqb}
 use Rattle.meaning.specs.Bytes.{number}
+use Rattle.meaning.specs.Layout.{actionCountAt, afterActions}
 
 module _ (bytes : List ℕ) where
   -- the place after k entries from place p
@@ -14,7 +15,7 @@ module _ (bytes : List ℕ) where
 
   -- the places of the counts of action sets, of state sets and of steps
   unfoldable pub actionSetCount : ℕ
-  actionSetCount = 24 + 24 * number 2 bytes 22
+  actionSetCount = let v : ℕ = number 1 bytes 4 in afterActions v (number 2 bytes (actionCountAt v))
 
   unfoldable pub stateSetCount : ℕ
   stateSetCount = afterEntries (actionSetCount + 2) (number 2 bytes actionSetCount)

@@ -2,10 +2,12 @@
 -- Assumes nothing.
 use Prim.Native.Nat.{ℕ, suc, _+_, _^_, _≤_, _<_}
 use mathlib.Core.Path.{_≡_}
-use mathlib.Core.Bool.{Bool}
+use mathlib.Core.Logic.{_⊎_}
+use mathlib.Core.Bool.{Bool, true, false}
 use mathlib.Core.List.{List, [], _∷_, _++_}
 use lib.ListN.{length}
-use lib.Dec.{T}
+use lib.Dec.{T, eqb}
+use lib.Bits.{bitAnd}
 use Rattle.task.specs.Task.{Task}
 use Rattle.task.specs.declared.Action.{Action}
 use Rattle.meaning.specs.declared.Clause.{Clause}
@@ -67,9 +69,14 @@ writeStep s = s .rule ∷ s .kind ∷ bytesOf 2 (s .left) ++ bytesOf 2 (s .right
 unfoldable pub counted : {A : Type 0} → (A → List ℕ) → List A → List ℕ
 counted write xs = bytesOf 2 (length xs) ++ each write xs
 
+-- the unknown facts; version 1 has no such field
+unfoldable pub writeUnknown : ℕ → Task → List ℕ
+writeUnknown v t = elim (eqb v 1) [ true ↦ [] | false ↦ bytesOf 8 (t .unknown) ]
+
 -- the fields from the version up to and with the actions
-unfoldable pub writeTask : Task → List ℕ
-writeTask t = 1 ∷ t .facts ∷ bytesOf 8 (t .init) ++ bytesOf 8 (t .goal) ++ counted writeAction (t .actions)
+unfoldable pub writeTask : ℕ → Task → List ℕ
+writeTask v t =
+    v ∷ t .facts ∷ bytesOf 8 (t .init) ++ writeUnknown v t ++ bytesOf 8 (t .goal) ++ counted writeAction (t .actions)
 
 -- the fields after them: the certificate
 unfoldable pub writeCertificate : List ActionSet → List StateSet → List Step → List ℕ
@@ -80,7 +87,7 @@ unfoldable pub fileOf : List ℕ → List ℕ → List ℕ
 fileOf table certificate = bytesOf 4 (length (table ++ certificate)) ++ (table ++ certificate)
 
 unfoldable pub writeFile : File → List ℕ
-writeFile f = fileOf (writeTask (f .task)) (writeCertificate (f .actionSets) (f .stateSets) (f .steps))
+writeFile f = fileOf (writeTask (f .version) (f .task)) (writeCertificate (f .actionSets) (f .stateSets) (f .steps))
 
 -- ---- the files that the format can hold
 
@@ -107,9 +114,15 @@ pub record FitsTask (t : Task) : Type 0 where
   pub some-facts : 1 ≤ t .facts
   pub few-facts : t .facts ≤ 64
   pub init : t .init < 2 ^ t .facts
+  pub unknown : t .unknown < 2 ^ t .facts
+  pub apart : bitAnd (t .init) (t .unknown) ≡ 0
   pub goal : t .goal < 2 ^ t .facts
   pub few-actions : length (t .actions) ≤ 256
   pub actions : All (FitsAction (t .facts)) (t .actions)
+
+-- version 1 has no unknown facts
+abbrev pub FitsVersion : ℕ → Task → Type 0
+FitsVersion v t = ((v ≡ 1) × (t .unknown ≡ 0)) ⊎ (v ≡ 2)
 
 -- entry i of a file with m actions
 abbrev pub FitsActionSet : ℕ → ℕ → ActionSet → Type 0
@@ -179,6 +192,7 @@ pub record Allowed (l : Limits) (ss : List StateSet) (ks : List Step) : Type 0 w
 
 -- everything within the format's and a check's limits but the length of the whole
 pub record Fits (l : Limits) (f : File) : Type 0 where
+  pub version : FitsVersion (f .version) (f .task)
   pub task : FitsTask (f .task)
   pub certificate : FitsCertificate (f .task) (f .actionSets) (f .stateSets) (f .steps)
   pub allowed : Allowed l (f .stateSets) (f .steps)
@@ -187,6 +201,6 @@ pub record Fits (l : Limits) (f : File) : Type 0 where
 abbrev pub FitsSize : Limits → ℕ → Type 0
 FitsSize l n = (n ≤ full .size) × (n ≤ l .size)
 
--- the bytes are those of a task, whole, in which 2 to 7 find no fault. Document 01: a lawful table
+-- the bytes are those of a task, whole, in which 2 to 7 and 16 find no fault. Document 01: a lawful table
 abbrev pub Lawful : List ℕ → Task → Type 0
 Lawful table t = readTask (fileOf table []) ≡ found (t, 4 + length table)
