@@ -220,6 +220,6 @@ read-full l bytes f e =
       | inr b ↦ no-found 19 (b .0) f (sym (b .1) ∙ e)
     ]
 
--- a layout is refused with 1 to 7
-pub read-number : (bytes : List ℕ) → Numbered (λ r p. (1 ≤ r) × (r ≤ 7)) (readFile bytes)
-read-number bytes = widen (λ r p w. (w .some, w .few)) (second (file-stage full bytes))
+-- a layout is refused with 1 to 7 or 16
+pub read-number : (bytes : List ℕ) → Numbered (λ r p. OfLayout r) (readFile bytes)
+read-number bytes = widen (λ r p w. w .number) (second (file-stage full bytes))

@@ -1,19 +1,19 @@
 -- The definitions that computing a reply opens: `unfolding computed` opens them all.
 -- Assumes nothing.
-use Rattle.task.specs.Facts.{allOn, without}
+use Rattle.task.specs.Facts.{allOn, without, onesIn}
 use Rattle.task.specs.Task.{actionAt, isInit, isGoal, applies, after}
 use Rattle.task.specs.Reach.{member, every}
 use Rattle.meaning.specs.Result.{_>>=_, need, known}
 use Rattle.meaning.specs.Bytes.{bigEndian, number, inside}
 use Rattle.meaning.specs.File.{actionSetAt, stateSetAt, stepAt, actionKind, basicKind, stateKind, first, second, firstAction}
 use Rattle.meaning.specs.File.{secondAction}
-use Rattle.meaning.specs.Layout.{onesIn, hornRule, twoCnfRule, items, ascending, field, count, mask, reference, action, clause, step}
+use Rattle.meaning.specs.Layout.{hornRule, twoCnfRule, items, ascending, field, count, mask, reference, action, clause, step}
 use Rattle.meaning.specs.Layout.{upTo, plain, one, two, clauses, actionKinds, stateKinds, entry, entries, readTask, readWithin}
-use Rattle.meaning.specs.Layout.{readFile}
+use Rattle.meaning.specs.Layout.{goalAt, actionCountAt, actionSize, afterActions, unknownMask, readFile}
 use Rattle.meaning.specs.Sets.{allBelow, someBelow, rounds, settled, actionNode, inActions, meets, inBasic, someAction, progressed}
 use Rattle.meaning.specs.Sets.{regressed, stateNode, inSet, statesWithin, actionsWithin}
 use Rattle.meaning.specs.Shapes.{keep, theOnly, kindAt, child, leafNode, leaves, isBasic, isComplement, isLiteral, literalKind}
-use Rattle.meaning.specs.Shapes.{complements, others, movedLeft, movedRight, bracket, used, ofLiterals, ofClauses, ofStates}
+use Rattle.meaning.specs.Shapes.{complements, others, movedLeft, movedRight, bracket, used, ofLiterals, ofClauses, listsInit, ofStates}
 use Rattle.meaning.specs.Shapes.{permitted, shape₁, shapeWith, shape₂, shape₃, mixed, shape₄}
 use Rattle.meaning.specs.Statements.{statements}
 use Rattle.meaning.specs.Rules.{rules, patternKind}
@@ -33,10 +33,10 @@ use Rattle.meaning.specs.Cases.{sample, cases}
 unfoldable pub computed : Unit {0}
 unfolding allOn without actionAt isInit isGoal applies after member every _>>=_ need known bigEndian number inside actionSetAt
     stateSetAt stepAt actionKind basicKind stateKind first second firstAction secondAction onesIn hornRule twoCnfRule items ascending
-    field count mask reference action clause step upTo plain one two clauses actionKinds stateKinds entry entries readTask readWithin
-    readFile allBelow someBelow rounds settled actionNode inActions meets inBasic someAction progressed regressed stateNode inSet statesWithin
+    field count mask reference action clause step upTo plain one two clauses actionKinds stateKinds entry entries goalAt actionCountAt
+    actionSize afterActions unknownMask readTask readWithin readFile allBelow someBelow rounds settled actionNode inActions meets inBasic someAction progressed regressed stateNode inSet statesWithin
     actionsWithin keep theOnly kindAt child leafNode leaves isBasic isComplement isLiteral literalKind complements others movedLeft
-    movedRight bracket used ofLiterals ofClauses ofStates permitted shape₁ shapeWith shape₂ shape₃ mixed shape₄ statements rules
+    movedRight bracket used ofLiterals ofClauses listsInit ofStates permitted shape₁ shapeWith shape₂ shape₃ mixed shape₄ statements rules
     patternKind noLetters _then_ given withLetter standsFor ofKind ofActionKind matchᴬ match matchEntries matchStep matchPremises
     judgementKind premiseCount allRules ruleAt entriesFit wellFormed checkBy checkStep checkSteps checkFrom checkFile replyTo replyOf
     checkUnused checkNumbers ruleNumbers ruleFrom ruleMeant rewritten checkRewritten replyNumbered lawfulCount

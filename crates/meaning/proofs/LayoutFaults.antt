@@ -1,32 +1,35 @@
--- Where the parts of a file are refused: with 1 to 7, at a place within the part.
+-- Where the parts of a file are refused: with 1 to 7 or 16, at a place within the part.
 -- Assumes nothing.
 use mathlib.Core.Path.{_≡_, refl, ap}
 use Prim.Native.Nat.{ℕ, zero, suc, _+_, _*_, _/_, _^_, _≤_}
 use native.Mathlib.Nat.{mul-suc, mul-div-le}
 use native.Mathlib.Omega.{arith}
+use mathlib.Core.Logic.{inl, inr}
 use mathlib.Core.Bool.{Bool, _&&_}
 use mathlib.Core.List.{List}
-use lib.Dec.{T, leb, ltb, leb→le, eqb→eq}
+use lib.Dec.{T, leb, ltb, eqb, leb→le, eqb→eq}
 use Rattle.meaning.specs.Result.{Result, found, _>>=_, need}
 use Rattle.meaning.specs.Bytes.{number}
 use Rattle.meaning.specs.declared.Clause.{Clause}
 use Rattle.meaning.specs.File.{Basic, basic}
 use Rattle.meaning.specs.Layout.{items, ascending, field, count, mask, reference, action, clause, step, Kind, plain, one, two}
-use Rattle.meaning.specs.Layout.{clauses, readTask}
+use Rattle.meaning.specs.Layout.{clauses, goalAt, actionCountAt, actionSize, afterActions, unknownMask, readTask}
+use Rattle.meaning.specs.Structure.{actionSetCount}
+use Rattle.meaning.specs.Points.{OfLayout}
 use Rattle.meaning.proofs.Results.{and-out}
-use Rattle.meaning.proofs.Numbered.{Yields, given, Numbered, then-ok, need-ok}
+use Rattle.meaning.proofs.Numbered.{Yields, given, Numbered, then-ok, need-ok, either-ok}
+use Rattle.meaning.proofs.Places.{places, after-actions}
 
--- one of document 01's numbers for the layout, from place lo to place hi
+-- one of the layout's numbers, from place lo to place hi
 pub record Within (lo hi r q : ℕ) : Type 0 where
-  pub some : 1 ≤ r
-  pub few : r ≤ 7
+  pub number : OfLayout r
   pub low : lo ≤ q
   pub high : q ≤ hi
 
 pub within : {lo hi : ℕ} (r q : ℕ) → T (leb 1 r && leb r 7) → lo ≤ q → q ≤ hi → Within lo hi r q
 within r q t l h =
     let b = and-out (leb 1 r) (leb r 7) t in
-    record { some = leb→le 1 r (b .0); few = leb→le r 7 (b .1); low = l; high = h }
+    record { number = inl (leb→le 1 r (b .0), leb→le r 7 (b .1)); low = l; high = h }
 
 -- where its item of `size` bytes is between two places, a reader is refused, if at all, between them
 abbrev pub Part : ℕ → ℕ → {A : Type 0} → ℕ → (ℕ → Result A) → Type 0
@@ -103,19 +106,30 @@ module _ (lo hi : ℕ) where
 
     -- ---- the task
 
-    pub task-in : lo ≤ 4 → 24 + 24 * number 2 bytes 22 ≤ hi
-        → Yields (Within lo hi) (λ t. (t .0 .facts ≡ number 1 bytes 5) × (t .1 ≡ 24 + 24 * number 2 bytes 22)) (readTask bytes)
-    unfolding readTask
+    unknown-in : (v n s : ℕ) → lo ≤ 14 → 22 ≤ hi → Numbered (Within lo hi) (unknownMask bytes v n s)
+    unfolding unknownMask
+    unknown-in v n s l h =
+        either-ok (eqb v 1) (given tt)
+        (then-ok (mask-in n 14 l h) (λ u _.
+        then-ok (need-ok _ 16 14 (record { number = inr refl; low = l; high = omega arith })) (λ _ _. given tt)))
+
+    pub task-in : lo ≤ 4 → actionSetCount bytes ≤ hi
+        → Yields (Within lo hi) (λ t. (t .0 .facts ≡ number 1 bytes 5) × (t .1 ≡ actionSetCount bytes)) (readTask bytes)
+    unfolding readTask actionSetCount
     task-in l h =
-        then-ok (field-in 1 4 l (omega arith)) (λ _ _.
-        then-ok (need-within _ 2 4 tt l (omega arith)) (λ _ _.
+        let v : ℕ = number 1 bytes 4 in
+        let o = places v in
+        let e = after-actions v (number 2 bytes (actionCountAt v)) in
+        then-ok (field-in 1 4 l (omega arith)) (λ _ w. rw w
+        (then-ok (need-within _ 2 4 tt l (omega arith)) (λ _ _.
         then-ok (field-in 1 5 (omega arith) (omega arith)) (λ n i.
         then-ok (need-within _ 4 5 tt (omega arith) (omega arith)) (λ _ _.
-        then-ok (mask-in n 6 (omega arith) (omega arith)) (λ _ _.
-        then-ok (mask-in n 14 (omega arith) (omega arith)) (λ _ _.
-        then-ok (count-in 0 256 22 (omega arith) (omega arith)) (λ m e.
-        then-ok (items-in _ 24 (action-in n) m 24 (omega arith) (omega arith)) (λ _ _.
-        given (i, ap (λ (k : ℕ). 24 + 24 * k) (e .0))))))))))
+        then-ok (mask-in n 6 (omega arith) (omega arith)) (λ s _.
+        then-ok (unknown-in v n s (omega arith) (omega arith)) (λ _ _.
+        then-ok (mask-in n (goalAt v) (omega arith) (omega arith)) (λ _ _.
+        then-ok (count-in 0 256 (actionCountAt v) (omega arith) (omega arith)) (λ m c.
+        then-ok (items-in _ (actionSize v) (action-in n) m (actionCountAt v + 2) (omega arith) (omega arith)) (λ _ _.
+        given (i, ap (afterActions v) (c .0))))))))))))
 
 -- ---- bodies of entries, of a length that fits the kind
 

@@ -1,6 +1,7 @@
 pub mod Results
 pub mod Numbers
 pub mod Numbered
+pub mod Places
 pub mod LayoutFaults
 pub mod Stages
 pub mod Breaches
@@ -15,6 +16,7 @@ pub mod Written
 pub mod WrittenBytes
 pub mod Again
 pub mod AgainEntries
+pub mod Unknown
 pub mod WritesBack
 pub mod Below
 pub mod Settled

@@ -24,7 +24,7 @@ use Rattle.meaning.proofs.Refusals.{OfSteps, check-ok, reply-number, re
 
 pub full-limits : FullLimits
 unfolding replyWithin replyOf readFile
-full-limits bytes = (refl, λ p e. let h = refusal-numbers bytes 19 p e in omega arith)
+full-limits bytes = (refl, λ p e. elim (refusal-numbers bytes 19 p e) [ inl h ↦ omega (arith, h .1) | inr h ↦ omega arith ])
 
 pub replies-alike : RepliesAlike
 unfolding replyWithin replyOf replyTo _>>=_
@@ -58,7 +58,7 @@ limit-refusals l bytes r p e =
 -- a place is before what the steps refuse, and before what the layout refuses behind it
 steps-before : (p : ℕ) {x : Result (Unit {0})} → Numbered OfSteps x → Before p (replyTo x)
 unfolding replyTo
-steps-before p (refused h) = inl (h .0)
+steps-before p (refused h) = inl h
 steps-before p (given h) = tt
 
 reply-before : {hi : ℕ} (p : ℕ) {P : File → Type 0} {y : Result File}
@@ -76,8 +76,13 @@ staged : {lo hi : ℕ} {P : File → Type 0} {x y : Result File} {bs : List ℕ}
     → (replyTo (x >>= checkFile) ≡ Refused 19 p) ↔ (getElem? bs 0 ≡ some p) × Before p (replyTo (y >>= checkFile))
 unfolding replyTo _>>=_
 staged (fault {r = r} w f) p = (
-  (λ e. absurd (let z : r ≡ 19 = cc in omega arith)),
-  (λ h. absurd (let l = at-first f p (h .0) in elim (h .1) [ inl a ↦ omega arith | inr b ↦ omega arith ])),
+  (λ e. absurd (let z : r ≡ 19 = cc in elim (w .number) [ inl a ↦ omega (arith, a .1) | inr b ↦ omega arith ])),
+  (λ h. absurd
+      (let l = at-first f p (h .0) in
+      elim (h .1) [
+        | inl a ↦ elim (w .number) [ inl b ↦ omega (arith, a .0, b .1) | inr b ↦ omega (arith, a .1) ]
+        | inr b ↦ omega arith
+      ])),
 )
 staged (fine {a = f} h) p = (
   (λ e. absurd (let z = reply-number (check-ok f) 19 p e in omega arith)),

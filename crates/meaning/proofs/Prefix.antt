@@ -3,7 +3,7 @@
 use mathlib.Core.Path.{_≡_, sym, ap, _∙_, subst}
 use Prim.Native.Nat.{ℕ, zero, suc, _+_, _-_, _≤_}
 use native.Mathlib.Omega.{arith}
-use mathlib.Core.Bool.{_&&_}
+use mathlib.Core.Bool.{_&&_, _||_}
 use mathlib.Core.List.{List, []}
 use lib.ListN.{length, take, drop, length-drop}
 use lib.Seq.{drop-append-le, take-append-le, drop-drop}
@@ -11,10 +11,12 @@ use lib.Dec.{leb, eqb, leb→le, le→leb}
 use Rattle.task.specs.Task.{Task}
 use Rattle.meaning.specs.Result.{Result, found, need}
 use Rattle.meaning.specs.Bytes.{bigEndian, number, inside}
-use Rattle.meaning.specs.Layout.{items, field, count, mask, action, readTask}
+use Rattle.meaning.specs.Layout.{items, field, count, mask, action, goalAt, actionCountAt, actionSize, unknownMask, readTask}
 use Rattle.meaning.specs.Writing.{fileOf, Lawful}
 use Rattle.meaning.proofs.Results.{bind-case, bind-in, need-case, need-in, found-same}
 use Rattle.meaning.proofs.Suffix.{file-at, length-file}
+use Rattle.meaning.proofs.Places.{places}
+use Rattle.meaning.proofs.Unknown.{Unknown, none, some, unknown-out, unknown-in}
 
 -- behind the length field, whatever the first reader gives the second gives too
 abbrev Same : {A : Type 0} → (ℕ → Result A) → (ℕ → Result A) → Type 0
@@ -75,26 +77,34 @@ module _ (table certificate : List ℕ) where
       bind-in _ (same-mask n p x h x!) (bind-in _ (same-mask n (p + 8) y (omega arith) y!)
       (bind-in _ (same-mask n (p + 16) z (omega arith) z!) q))
 
+  same-unknown : (v n s u : ℕ) → Unknown b v n s u → Unknown c v n s u
+  same-unknown v n s u (none e z) = none e z
+  same-unknown v n s u (some e u! a) = some e (same-mask n 14 u (omega arith) u!) a
+
   -- what is read of a task's bytes alone is read of a file that begins with them
   pub same-task : (r : Task × ℕ) → readTask (fileOf table []) ≡ found r → readTask (fileOf table certificate) ≡ found r
   unfolding readTask
   same-task r e =
       bind-case (field b 1 4) _ r e λ v v! e₁.
-      bind-case (need (eqb v 1) 2 4) _ r e₁ λ u u! e₂.
+      bind-case (need (eqb v 1 || eqb v 2) 2 4) _ r e₁ λ k k! e₂.
       bind-case (field b 1 5) _ r e₂ λ n n! e₃.
       bind-case (need (leb 1 n && leb n 64) 4 5) _ r e₃ λ w w! e₄.
       bind-case (mask b n 6) _ r e₄ λ s s! e₅.
-      bind-case (mask b n 14) _ r e₅ λ g g! e₆.
-      bind-case (count b 0 256 22) _ r e₆ λ m m! e₇.
-      bind-case (items (action b n) 24 24 m) _ r e₇ λ xs xs! q.
+      bind-case (unknownMask b v n s) _ r e₅ λ u u! e₆.
+      bind-case (mask b n (goalAt v)) _ r e₆ λ g g! e₇.
+      bind-case (count b 0 256 (actionCountAt v)) _ r e₇ λ m m! e₈.
+      bind-case (items (action b n) (actionSize v) (actionCountAt v + 2) m) _ r e₈ λ xs xs! q.
+      let o = places v in
       bind-in _ (same-field 1 4 v (omega arith) v!)
-      (bind-in _ u!
+      (bind-in _ k!
       (bind-in _ (same-field 1 5 n (omega arith) n!)
       (bind-in _ w!
       (bind-in _ (same-mask n 6 s (omega arith) s!)
-      (bind-in _ (same-mask n 14 g (omega arith) g!)
-      (bind-in _ (same-count 0 256 22 m (omega arith) m!)
-      (bind-in _ (same-items (action b n) (action c n) (same-action n) 24 m 24 xs (omega arith) xs!) q)))))))
+      (bind-in _ (unknown-in c v n s (same-unknown v n s u (unknown-out b v n s u u!)))
+      (bind-in _ (same-mask n (goalAt v) g (omega arith) g!)
+      (bind-in _ (same-count 0 256 (actionCountAt v) m (omega arith) m!)
+      (bind-in _ (same-items (action b n) (action c n) (same-action n) (actionSize v) m (actionCountAt v + 2) xs (omega arith) xs!)
+      q))))))))
 
   -- a lawful table reads as its task in every file that begins with it
   pub lawful-reads : (t : Task) → Lawful table t → readTask (fileOf table certificate) ≡ found (t, 4 + length table)

@@ -2,10 +2,10 @@
 -- Assumes nothing.
 use mathlib.Core.Path.{_≡_, refl, sym, ap, subst}
 use Prim.Native.Nat.{ℕ, suc, _+_, _*_, _≤_}
-use mathlib.Core.Bool.{_&&_}
+use mathlib.Core.Bool.{_&&_, _||_}
 use mathlib.Core.List.{List, [], _∷_}
 use lib.ListN.{length}
-use lib.Dec.{eqb, leb, eqb→eq, leb→le}
+use lib.Dec.{T, eqb, leb, eqb→eq, leb→le}
 use Rattle.task.specs.declared.Action.{Action}
 use Rattle.task.specs.Task.{Task}
 use Rattle.meaning.specs.Result.{found}
@@ -13,50 +13,63 @@ use Rattle.meaning.specs.Bytes.{number, inside, AreBytes}
 use Rattle.meaning.specs.File.{ActionSet, StateSet, Step, File}
 use Rattle.meaning.specs.declared.Limits.{Limits}
 use Rattle.meaning.specs.Limits.{full}
-use Rattle.meaning.specs.Layout.{items, field, count, mask, action, step, actionKinds, stateKinds, entries, readTask, readWithin}
+use Rattle.meaning.specs.Layout.{items, field, count, mask, action, step, actionKinds, stateKinds, entries, readWithin}
+use Rattle.meaning.specs.Layout.{goalAt, actionCountAt, actionSize, afterActions, unknownMask, readTask}
 use Rattle.meaning.specs.Layout.{readFile}
-use Rattle.meaning.specs.Writing.{AllFrom, All, FitsAction, FitsTask, FitsActionSet, FitsStateSet, FitsStep, listedStates, Allowed, Fits, FitsSize}
+use Rattle.meaning.specs.Writing.{AllFrom, All, FitsAction, FitsTask, FitsVersion, FitsActionSet, FitsStateSet, FitsStep}
+use Rattle.meaning.specs.Writing.{listedStates, Allowed, Fits, FitsSize}
 use Rattle.meaning.proofs.Results.{found-same, bind-case, need-case, and-out}
 use Rattle.meaning.proofs.Numbers.{number-lt}
+use Rattle.meaning.proofs.Again.{field-out}
+use Rattle.meaning.proofs.Unknown.{Unknown, unknown-out, unknown-fits, version-fits}
 use Rattle.meaning.proofs.Given.{Gives, mask-gives, count-gives, action-gives, items-give, action-sets-give, state-sets-give}
 
 -- the parts of a task that is read
 pub record TaskWalked (bytes : List ℕ) (r : Task × ℕ) : Type 0 where
-  pub version : field bytes 1 4 ≡ found 1
+  pub v : ℕ
+  pub v! : field bytes 1 4 ≡ found v
+  pub known : T (eqb v 1 || eqb v 2)
   pub n : ℕ
   pub n! : field bytes 1 5 ≡ found n
   pub some-facts : 1 ≤ n
   pub few-facts : n ≤ 64
   pub s : ℕ
   pub s! : mask bytes n 6 ≡ found s
+  pub u : ℕ
+  pub u! : Unknown bytes v n s u
   pub g : ℕ
-  pub g! : mask bytes n 14 ≡ found g
+  pub g! : mask bytes n (goalAt v) ≡ found g
   pub m : ℕ
-  pub m! : count bytes 0 256 22 ≡ found m
+  pub m! : count bytes 0 256 (actionCountAt v) ≡ found m
   pub acts : List Action
-  pub acts! : items (action bytes n) 24 24 m ≡ found acts
-  pub whole : _≡_ {A = Task × ℕ} (record { facts = n; init = s; goal = g; actions = acts }, 24 + 24 * m) r
+  pub acts! : items (action bytes n) (actionSize v) (actionCountAt v + 2) m ≡ found acts
+  pub whole : _≡_ {A = Task × ℕ} (record { facts = n; init = s; unknown = u; goal = g; actions = acts }, afterActions v m) r
 
 pub task-walked : (bytes : List ℕ) (r : Task × ℕ) → readTask bytes ≡ found r → TaskWalked bytes r
 unfolding readTask
 task-walked bytes r e =
     bind-case (field bytes 1 4) _ r e λ v v! e₁.
-    need-case (eqb v 1) 2 4 _ r e₁ λ one e₂.
+    need-case (eqb v 1 || eqb v 2) 2 4 _ r e₁ λ known e₂.
     bind-case (field bytes 1 5) _ r e₂ λ n n! e₃.
     need-case (leb 1 n && leb n 64) 4 5 _ r e₃ λ h e₄.
     bind-case (mask bytes n 6) _ r e₄ λ s s! e₅.
-    bind-case (mask bytes n 14) _ r e₅ λ g g! e₆.
-    bind-case (count bytes 0 256 22) _ r e₆ λ m m! e₇.
-    bind-case (items (action bytes n) 24 24 m) _ r e₇ λ acts acts! q.
+    bind-case (unknownMask bytes v n s) _ r e₅ λ u u! e₆.
+    bind-case (mask bytes n (goalAt v)) _ r e₆ λ g g! e₇.
+    bind-case (count bytes 0 256 (actionCountAt v)) _ r e₇ λ m m! e₈.
+    bind-case (items (action bytes n) (actionSize v) (actionCountAt v + 2) m) _ r e₈ λ acts acts! q.
     let b = and-out (leb 1 n) (leb n 64) h in
     record {
-      version = subst (λ (x : ℕ). field bytes 1 4 ≡ found x) (eqb→eq v 1 one) v!;
+      v = v;
+      v! = v!;
+      known = known;
       n = n;
       n! = n!;
       some-facts = leb→le 1 n (b .0);
       few-facts = leb→le n 64 (b .1);
       s = s;
       s! = s!;
+      u = u;
+      u! = unknown-out bytes v n s u u!;
       g = g;
       g! = g!;
       m = m;
@@ -66,29 +79,38 @@ task-walked bytes r e =
       whole = found-same q;
     }
 
-read-task : (bytes : List ℕ) (r : Task × ℕ) → readTask bytes ≡ found r → FitsTask (r .0) × (r .1 ≡ 24 + 24 * length (r .0 .actions))
-read-task bytes r e =
-    let w = task-walked bytes r e in
-    let h = items-give (FitsAction (w .n)) (action bytes (w .n)) 24 (action-gives bytes (w .n)) (w .m) 0 24 (w .acts) (w .acts!) in
-    subst (λ (x : Task × ℕ). FitsTask (x .0) × (x .1 ≡ 24 + 24 * length (x .0 .actions))) (w .whole) (
-      record {
+-- it fits the format and the version, and ends where its actions do
+pub record TaskRead (bytes : List ℕ) (t : Task) (end : ℕ) : Type 0 where
+  pub fits : FitsTask t
+  pub version : FitsVersion (number 1 bytes 4) t
+  pub ends : end ≡ afterActions (number 1 bytes 4) (length (t .actions))
+
+pub task-read : (bytes : List ℕ) (t : Task) (end : ℕ) → readTask bytes ≡ found (t, end) → TaskRead bytes t end
+task-read bytes t end e =
+    let w = task-walked bytes (t, end) e in
+    let h = items-give (FitsAction (w .n)) (action bytes (w .n)) (actionSize (w .v)) (action-gives bytes (w .n)) (w .m) 0 _ (w .acts)
+    (w .acts!) in
+    let u = unknown-fits bytes (w .v) (w .n) (w .s) (w .u!) in
+    let i : w .v ≡ number 1 bytes 4 = sym (field-out bytes 1 4 (w .v) (w .v!) .1) in
+    subst (λ (x : Task × ℕ). TaskRead bytes (x .0) (x .1)) (w .whole)
+    (record {
+      fits = record {
         some-facts = w .some-facts;
         few-facts = w .few-facts;
         init = mask-gives bytes (w .n) 6 (w .s) (w .s!);
-        goal = mask-gives bytes (w .n) 14 (w .g) (w .g!);
-        few-actions = subst (λ (l : ℕ). l ≤ 256) (sym (h .0)) (count-gives bytes 0 256 22 (w .m) (w .m!) .1);
+        unknown = u .0;
+        apart = u .1;
+        goal = mask-gives bytes (w .n) (goalAt (w .v)) (w .g) (w .g!);
+        few-actions = subst (λ (l : ℕ). l ≤ 256) (sym (h .0)) (count-gives bytes 0 256 _ (w .m) (w .m!) .1);
         actions = h .1;
-      },
-      ap (λ (k : ℕ). 24 + 24 * k) (sym (h .0)),
-    )
-
--- the task's fields end where its actions do
-pub task-end : (bytes : List ℕ) (t : Task) (end : ℕ) → readTask bytes ≡ found (t, end) → end ≡ 24 + 24 * length (t .actions)
-task-end bytes t end e = read-task bytes (t, end) e .1
+      };
+      version = rw (← i) (version-fits bytes (w .v) (w .n) (w .s) _ (w .known) (w .u!));
+      ends = rw (← i, h .0) refl;
+    })
 
 -- a task that is read is within the limits
 pub task-fits : (bytes : List ℕ) (t : Task) (end : ℕ) → readTask bytes ≡ found (t, end) → FitsTask t
-task-fits bytes t end e = read-task bytes (t, end) e .0
+task-fits bytes t end e = task-read bytes t end e .fits
 
 -- what is known of a file without a bound on the list's numbers
 pub record Read (bytes : List ℕ) (f : File) : Type 0 where
@@ -145,7 +167,7 @@ pub record Walked (l : Limits) (bytes : List ℕ) (f : File) : Type 0 where
   pub ks : List Step
   pub ks! : items (step bytes) 12 (ss .1 + 2) kc ≡ found ks
   pub last : length bytes ≤ ss .1 + 2 + 12 * kc
-  pub whole : record { task = t .0; actionSets = es .0; stateSets = ss .0; steps = ks } ≡ f
+  pub whole : record { version = number 1 bytes 4; task = t .0; actionSets = es .0; stateSets = ss .0; steps = ks } ≡ f
 
 pub within-walked : (l : Limits) (bytes : List ℕ) (f : File) → readWithin l bytes ≡ found f → Walked l bytes f
 unfolding readWithin
@@ -211,7 +233,7 @@ read-with l bytes Q given f e =
       record {
         end = w .t .1;
         table = w .t!;
-        task = read-task bytes (w .t) (w .t!) .0;
+        task = task-fits bytes (w .t .0) (w .t .1) (w .t!);
         few-action-sets = subst (λ (l : ℕ). l ≤ 256) (sym (a .0)) (count-gives bytes 0 256 (w .t .1) (w .ac) (w .ac!) .1);
         action-sets = a .1;
         few-state-sets = subst (λ (l : ℕ). l ≤ 512) (sym (x .0)) (count-gives bytes 0 512 (w .es .1) (w .sc) (w .sc!) .1);
@@ -235,6 +257,7 @@ reads-within l bytes f h e =
     let r = read-with l bytes FitsStep (step-gives bytes h) f e in
     let w = within-walked l bytes f e in (
       record {
+        version = subst (λ (g : File). FitsVersion (g .version) (g .task)) (w .whole) (task-read bytes (w .t .0) (w .t .1) (w .t!) .version);
         task = r .0 .task;
         certificate = record {
           few-action-sets = r .0 .few-action-sets;

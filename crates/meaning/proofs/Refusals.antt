@@ -1,4 +1,5 @@
--- The numbers of refusals: 1 to 12 from the checker, 17 of a round's numbers, and 18 of a caller's list; 1 to 7 or 13 from the question.
+-- The numbers of refusals: 1 to 12 or 16 from the checker, 17 of a round's numbers, and 18 of a caller's list; 1 to 7, 16 or 13 from the
+-- question.
 -- Assumes nothing.
 use mathlib.Core.Path.{_≡_, refl}
 use Prim.Native.Nat.{ℕ, suc, _+_, _≤_}
@@ -21,7 +22,7 @@ use Rattle.meaning.specs.Question.{answerTo, answerOf}
 use Rattle.meaning.specs.Numbering.{checkUnused, checkNumbers, checkRewritten, replyNumbered}
 use Rattle.meaning.specs.declared.Round.the-variants as round
 use Rattle.meaning.specs.Rounds.{handBack, checkRound, roundTo, roundOf}
-use Rattle.meaning.specs.Points.{RefusalNumbers, NumberedRefusals, RoundRefusals, AnswerNumbers}
+use Rattle.meaning.specs.Points.{OfFile, OfLayout, RefusalNumbers, NumberedRefusals, RoundRefusals, AnswerNumbers}
 use Rattle.meaning.proofs.Results.{and-out}
 use Rattle.meaning.proofs.Numbered.{given, Numbered, number-of, then-ok, need-ok, known-ok, either-ok, widen, forget}
 use Rattle.meaning.proofs.Breaches.{read-number}
@@ -60,15 +61,16 @@ module _ (f : File) where
 -- ---- replies
 
 abbrev OfCheck : ℕ → ℕ → Type 0
-OfCheck r p = (1 ≤ r) × (r ≤ 12)
+OfCheck r p = OfFile r
 
 -- the layout and the steps, where these numbers are among others
 module _ (ok : ℕ → ℕ → Type 0) (among : (r p : ℕ) → OfCheck r p → ok r p) where
   layout-among : (bytes : List ℕ) → Numbered ok (readFile bytes)
-  layout-among bytes = widen (λ r p h. among r p (h .0, omega arith)) (read-number bytes)
+  layout-among bytes =
+      widen (λ r p h. among r p (elim h [ inl a ↦ inl (a .0, omega (arith, a .1)) | inr e ↦ inr e ])) (read-number bytes)
 
   steps-among : {A : Type 0} {x : Result A} → Numbered OfSteps x → Numbered ok x
-  steps-among = widen (λ r p h. among r p (omega arith, h .1))
+  steps-among = widen (λ r p h. among r p (inl (omega (arith, h .0), h .1)))
 
 pub reply-refused : (x : Result (Unit {0})) (r p : ℕ) → replyTo x ≡ Refused r p → x ≡ refuse r p
 unfolding replyTo
@@ -132,7 +134,7 @@ round-refusals bytes from count r p e =
 -- ---- answers
 
 abbrev OfQuestion : ℕ → ℕ → Type 0
-OfQuestion r p = ((1 ≤ r) × (r ≤ 7)) ⊎ (r ≡ 13)
+OfQuestion r p = OfLayout r ⊎ (r ≡ 13)
 
 answer-refused : (x : Result Bool) (r p : ℕ) → answerTo x ≡ answer.Refused r p → x ≡ refuse r p
 unfolding answerTo

@@ -12,7 +12,9 @@ use Rattle.meaning.specs.Result.{Result, found, _>>=_, known}
 use Rattle.meaning.specs.Bytes.{number, inside}
 use Rattle.meaning.specs.File.{either, explicit, horn, twoCnf, basic, complement, intersection, union, progression, regression}
 use Rattle.meaning.specs.Layout.{hornRule, twoCnfRule, items, ascending, field, count, mask, reference, action, clause, step, Kind}
-use Rattle.meaning.specs.Layout.{plain, one, two, clauses, actionKinds, stateKinds, entry, readTask}
+use Rattle.meaning.specs.Layout.{plain, one, two, clauses, actionKinds, stateKinds, entry, goalAt, actionCountAt, actionSize}
+use Rattle.meaning.specs.Layout.{unknownMask, readTask}
+use Rattle.meaning.specs.Structure.{actionSetCount}
 use Rattle.meaning.specs.Relisted.{Relisted}
 use Rattle.meaning.proofs.Results.{bind-same}
 use Rattle.meaning.proofs.Numbered.{then-same, need-same}
@@ -90,17 +92,25 @@ module _ {a b : List ℕ} (r : Relisted a b) (lo hi : ℕ) (free : Free a lo hi)
 
   -- ---- the task
 
-  pub task-eq : lo ≤ 4 → 24 + 24 * number 2 a 22 ≤ hi → readTask a ≡ readTask b
-  unfolding readTask
+  unknown-eq : (v n s : ℕ) → lo ≤ 14 → 22 ≤ hi → unknownMask a v n s ≡ unknownMask b v n s
+  unfolding unknownMask
+  unknown-eq v n s l u = rw (mask-eq n 14 l u)
+
+  pub task-eq : lo ≤ 4 → actionSetCount a ≤ hi → readTask a ≡ readTask b
+  unfolding readTask actionSetCount actionSize
   task-eq l u =
-      bind-same (field-eq 1 4 l (omega arith)) λ _.
-      bind-same refl λ _.
+      let w : ℕ = number 1 a 4 in
+      let o = places w in
+      let x = after-actions w (number 2 a (actionCountAt w)) in
+      then-same (field-in 0 4 a 1 4 (omega arith) (omega arith)) (field-eq 1 4 l (omega arith)) λ v i. rw i
+      (bind-same refl λ _.
       bind-same (field-eq 1 5 (omega arith) (omega arith)) λ n.
       bind-same refl λ _.
-      bind-same (mask-eq n 6 (omega arith) (omega arith)) λ _.
-      bind-same (mask-eq n 14 (omega arith) (omega arith)) λ _.
-      then-same (count-in 0 22 a 0 256 22 (omega arith) (omega arith)) (count-eq 0 256 22 (omega arith) (omega arith)) λ m e.
-      bind-same (items-eq 24 (action-eq n) m 24 (omega arith) (let i = e .0 in omega arith)) λ _. refl
+      bind-same (mask-eq n 6 (omega arith) (omega arith)) λ s.
+      bind-same (unknown-eq w n s (omega arith) (omega arith)) λ _.
+      bind-same (mask-eq n (goalAt w) (omega arith) (omega arith)) λ _.
+      then-same (count-in 0 30 a 0 256 (actionCountAt w) (omega arith) (omega arith)) (count-eq 0 256 (actionCountAt w) (omega arith) (omega arith))
+      λ m e. bind-same (items-eq 24 (action-eq n) m (actionCountAt w + 2) (omega arith) (let i = e .0 in omega arith)) λ _. refl)
 
   -- ---- kinds of entry
 

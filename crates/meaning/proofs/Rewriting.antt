@@ -76,6 +76,7 @@ module _ (g : ℕ → ℕ) where
         let c = h .certificate in
         let n = count-stays g (f .steps) in
         record {
+          version = h .version;
           task = h .task;
           certificate = record {
             few-action-sets = c .few-action-sets;

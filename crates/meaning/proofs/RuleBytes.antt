@@ -99,7 +99,7 @@ module _ (f : File) where
 
 module _ (f : File) where
   abbrev with-steps : List Step → File
-  with-steps ks = record { task = f .task; actionSets = f .actionSets; stateSets = f .stateSets; steps = ks }
+  with-steps ks = record { version = f .version; task = f .task; actionSets = f .actionSets; stateSets = f .stateSets; steps = ks }
 
   -- each byte as itself
   pub rewritten-same : (g : ℕ → ℕ) → ((x : ℕ) → g x ≡ x) → rewritten g f ≡ f

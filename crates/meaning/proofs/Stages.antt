@@ -35,7 +35,7 @@ pub data Stage (lo hi : ℕ) {A : Type 0} (P : A → Type 0) : Result A → Resu
 
 -- between wider bounds
 shift : {lo hi lo′ hi′ r q : ℕ} → lo′ ≤ lo → hi ≤ hi′ → Within lo hi r q → Within lo′ hi′ r q
-shift l h w = record { some = w .some; few = w .few; low = omega arith; high = omega arith }
+shift l h w = record { number = w .number; low = omega arith; high = omega arith }
 
 -- the second reading by itself
 pub second : {lo hi : ℕ} {A : Type 0} {P : A → Type 0} {x y : Result A} {bs : List ℕ}

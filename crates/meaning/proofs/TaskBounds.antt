@@ -7,4 +7,4 @@ use Rattle.meaning.proofs.Order.{all-at}
 
 pub fits-bounded : (t : Task) → FitsTask t → Bounded t
 unfolding actionAt
-fits-bounded t w = bounded t (w .init) (λ i l. all-at (λ j. FitsAction (t .facts)) _ 0 (t .actions) (w .actions) i l .add)
+fits-bounded t w = bounded t (w .init) (w .unknown) (λ i l. all-at (λ j. FitsAction (t .facts)) _ 0 (t .actions) (w .actions) i l .add)

@@ -10,7 +10,7 @@ use Rattle.meaning.specs.Result.{Result, found}
 use Rattle.meaning.specs.Bytes.{bytesOf, number, AreBytes}
 use Rattle.meaning.specs.File.{File}
 use Rattle.meaning.specs.Limits.{full}
-use Rattle.meaning.specs.Layout.{items, count, action, step, readTask, readFile}
+use Rattle.meaning.specs.Layout.{items, count, action, step, goalAt, actionCountAt, actionSize, afterActions, readTask, readFile}
 use Rattle.meaning.specs.Writing.{each, writeAction, writeActionSet, writeStateSet, writeStep, counted, writeTask, writeCertificate}
 use Rattle.meaning.specs.Writing.{fileOf, writeFile}
 use Rattle.meaning.proofs.Given.{items-give, action-sets-give, state-sets-give}
@@ -36,20 +36,24 @@ module _ (bytes : List ℕ) (h : AreBytes bytes) where
       (items-give (λ _. Unit {0}) read size (λ _ _ _. tt) c 0 (p + 2) xs xs! .0)
       (items-again bytes write size read again c (p + 2) (p + 2 + size * c) refl xs xs!)
 
-  task-again : (r : Task × ℕ) → readTask bytes ≡ found r → Spans bytes 4 (r .1) (writeTask (r .0))
-  unfolding writeTask
+  task-again : (r : Task × ℕ) → readTask bytes ≡ found r → Spans bytes 4 (r .1) (writeTask (number 1 bytes 4) (r .0))
+  unfolding writeTask actionCountAt actionSize afterActions
   task-again r e =
       let w = task-walked bytes r e in
       let n : ℕ = w .n in
-      subst (λ (x : Task × ℕ). Spans bytes 4 (x .1) (writeTask (x .0))) (w .whole)
-      (joined (joined (joined (joined (byte-again bytes h 4 5 refl 1 (w .version)) (byte-again bytes h 5 6 refl n (w .n!)))
-      (mask-again bytes h n 6 14 refl (w .s) (w .s!))) (mask-again bytes h n 14 22 refl (w .g) (w .g!)))
-      (counted-items writeAction 24 (action bytes n) (action-again bytes h n) 0 256 22 (w .m) (w .acts) (w .m!) (w .acts!)))
+      let v : ℕ = w .v in
+      let t : Task = record { facts = n; init = w .s; unknown = w .u; goal = w .g; actions = w .acts } in
+      rw (field-out bytes 1 4 v (w .v!) .1)
+      (subst (λ (x : Task × ℕ). Spans bytes 4 (x .1) (writeTask v (x .0))) (w .whole)
+      (joined (joined (joined (joined (joined (byte-again bytes h 4 5 refl v (w .v!)) (byte-again bytes h 5 6 refl n (w .n!)))
+      (mask-again bytes h n 6 14 refl (w .s) (w .s!))) (unknown-again bytes h v n (w .s) t (w .u!)))
+      (mask-again bytes h n (goalAt v) (goalAt v + 8) refl (w .g) (w .g!)))
+      (counted-items writeAction 24 (action bytes n) (action-again bytes h n) 0 256 (goalAt v + 8) (w .m) (w .acts) (w .m!) (w .acts!))))
 
   -- the bytes between the length field and a place that is not before the end
   abbrev Behind : File → Type 0
   Behind f = (end : ℕ) × (length bytes ≤ end)
-      × Spans bytes 4 end (writeTask (f .task) ++ writeCertificate (f .actionSets) (f .stateSets) (f .steps))
+      × Spans bytes 4 end (writeTask (f .version) (f .task) ++ writeCertificate (f .actionSets) (f .stateSets) (f .steps))
 
   file-again : (f : File) → readFile bytes ≡ found f → Behind f
   unfolding writeCertificate
@@ -74,7 +78,7 @@ module _ (bytes : List ℕ) (h : AreBytes bytes) where
 pub writes-back : (bytes : List ℕ) (f : File) → AreBytes bytes → readFile bytes ≡ found f → writeFile f ≡ bytes
 unfolding writeFile fileOf
 writes-back bytes f h e =
-    let x : List ℕ = writeTask (f .task) ++ writeCertificate (f .actionSets) (f .stateSets) (f .steps) in
+    let x : List ℕ = writeTask (f .version) (f .task) ++ writeCertificate (f .actionSets) (f .stateSets) (f .steps) in
     let c : Behind bytes h f = file-again bytes h f e in
     let l : length bytes ≤ c .0 = c .1 in
     let w₀ = file-walked bytes f e in

@@ -13,15 +13,16 @@ use Rattle.meaning.specs.Bytes.{bytesOf, number}
 use Rattle.meaning.specs.File.{ActionSet, StateSet, Step, File}
 use Rattle.meaning.specs.declared.Limits.{Limits}
 use Rattle.meaning.specs.Limits.{full}
-use Rattle.meaning.specs.Layout.{action, step, readTask, readWithin}
-use Rattle.meaning.specs.Writing.{each, writeAction, writeActionSet, writeStateSet, writeStep, counted, writeTask, writeCertificate}
-use Rattle.meaning.specs.Writing.{fileOf, writeFile, AllFrom, FitsAction, FitsTask, FitsStateSet, FitsStep, FitsCertificate}
-use Rattle.meaning.specs.Writing.{listedStates, Allowed, Fits, FitsSize, Lawful}
+use Rattle.meaning.specs.Layout.{action, step, goalAt, actionCountAt, actionSize, afterActions, readTask, readWithin}
+use Rattle.meaning.specs.Writing.{each, writeAction, writeActionSet, writeStateSet, writeStep, counted, writeUnknown, writeTask}
+use Rattle.meaning.specs.Writing.{writeCertificate, fileOf, writeFile, AllFrom, FitsAction, FitsTask, FitsVersion, FitsStateSet, FitsStep}
+use Rattle.meaning.specs.Writing.{FitsCertificate, listedStates, Allowed, Fits, FitsSize, Lawful}
 use Rattle.meaning.proofs.Results.{bind-in, need-in, and-in}
 use Rattle.meaning.proofs.Numbers.{length-bytesOf}
 use Rattle.meaning.proofs.Reading.{task-fits}
-use Rattle.meaning.proofs.Suffix.{At, at-next, after-number, after-byte, number-back, whole, file-at, length-file}
+use Rattle.meaning.proofs.Suffix.{At, at-next, after-number, byte-back, after-byte, number-back, whole, file-at, length-file}
 use Rattle.meaning.proofs.Prefix.{lawful-reads}
+use Rattle.meaning.proofs.Unknown.{version-known, unknown-back}
 use Rattle.meaning.proofs.Back.{byte-field, count-back, mask-back, action-back, step-back, length-step, length-each, items-back}
 use Rattle.meaning.proofs.BackEntries.{action-sets-back, state-sets-back}
 
@@ -35,44 +36,46 @@ pub anything : {A : Type 0} (xs : List A) (i : ℕ) → AllFrom (λ _ _. Unit {0
 anything [] i = tt
 anything (x ∷ xs) i = (tt, anything xs (suc i))
 
--- how long a task's bytes are
-pub length-task : (t : Task) → length (writeTask t) ≡ 20 + 24 * length (t .actions)
-unfolding writeTask counted
-length-task t =
-    let e = length-each (λ _. Unit {0}) writeAction 24 (λ a _. length-action a) (t .actions) 0 (anything (t .actions) 0) in
-    simp (length-append, length-bytesOf) (omega arith)
-
 -- wherever a file has the bytes of a task that fits behind its length, it reads as that task
-task-back : (b rest : List ℕ) (t : Task) → FitsTask t → At b 4 (writeTask t ++ rest)
-    → readTask b ≡ found (t, 24 + 24 * length (t .actions))
-unfolding readTask writeTask counted
-task-back b rest t h w =
+task-back : (b rest : List ℕ) (v : ℕ) (t : Task) → FitsTask t → FitsVersion v t → At b 4 (writeTask v t ++ rest)
+    → (readTask b ≡ found (t, afterActions v (length (t .actions)))) × At b (afterActions v (length (t .actions))) rest
+unfolding readTask writeTask counted actionCountAt actionSize afterActions
+task-back b rest v t h k w =
     let m : ℕ = length (t .actions) in
-    let w₅ = after-byte b 4 1 _ w 5 refl in
-    let w₆ : At b 6 (bytesOf 8 (t .init) ++ (bytesOf 8 (t .goal) ++ (bytesOf 2 m ++ (each writeAction (t .actions) ++ rest)))) =
+    let w₅ = after-byte b 4 v _ w 5 refl in
+    let w₆ : At b 6 (bytesOf 8 (t .init) ++ (writeUnknown v t ++ (bytesOf 8 (t .goal) ++ (bytesOf 2 m ++ (each writeAction (t .actions) ++ rest))))) =
     simp append-assoc at (after-byte b 5 (t .facts)
-    (bytesOf 8 (t .init) ++ bytesOf 8 (t .goal) ++ counted writeAction (t .actions) ++ rest) w₅ 6 refl) in
+    (bytesOf 8 (t .init) ++ writeUnknown v t ++ bytesOf 8 (t .goal) ++ counted writeAction (t .actions) ++ rest) w₅ 6 refl) in
     let w₁₄ = after-number b 6 8 (t .init) _ w₆ 14 refl in
-    let w₂₂ = after-number b 14 8 (t .goal) _ w₁₄ 22 refl in
-    let w₂₄ = after-number b 22 2 m _ w₂₂ 24 refl in
-    bind-in _ (byte-field b 1 4 _ w)
-    (bind-in _ (need-in _ 2 4 tt)
-    (bind-in _ (byte-field b (t .facts) 5 _ w₅)
-    (bind-in _ (need-in _ 4 5 (and-in (leb 1 (t .facts)) (leb (t .facts) 64) (le→leb 1 (t .facts) (h .some-facts))
-    (le→leb (t .facts) 64 (h .few-facts))))
-    (bind-in _ (mask-back b (t .facts) (h .few-facts) (t .init) (h .init) 6 _ w₆)
-    (bind-in _ (mask-back b (t .facts) (h .few-facts) (t .goal) (h .goal) 14 _ w₁₄)
-    (bind-in _ (count-back b 0 256 (omega arith) m (omega arith, h .few-actions) 22 _ w₂₂)
-    (bind-in _ (items-back (FitsAction (t .facts)) writeAction 24 (λ a _. length-action a) b (action b (t .facts))
-    (action-back b (t .facts) (h .few-facts)) (t .actions) 0 (h .actions) 24 rest w₂₄)
-    refl)))))))
+    let (unknown, w₁₅) = unknown-back b _ v t h k w₁₄ in
+    let w₂₂ = after-number b (goalAt v) 8 (t .goal) _ w₁₅ (goalAt v + 8) refl in
+    let w₂₄ = after-number b (goalAt v + 8) 2 m _ w₂₂ (goalAt v + 8 + 2) refl in
+    let size : length (each writeAction (t .actions)) ≡ 24 * m =
+    length-each (λ _. Unit {0}) writeAction 24 (λ a _. length-action a) (t .actions) 0 (anything (t .actions) 0) in (
+      bind-in _ (byte-field b v 4 _ w)
+      (bind-in _ (need-in _ 2 4 (version-known v t k))
+      (bind-in _ (byte-field b (t .facts) 5 _ w₅)
+      (bind-in _ (need-in _ 4 5 (and-in (leb 1 (t .facts)) (leb (t .facts) 64) (le→leb 1 (t .facts) (h .some-facts))
+      (le→leb (t .facts) 64 (h .few-facts))))
+      (bind-in _ (mask-back b (t .facts) (h .few-facts) (t .init) (h .init) 6 _ w₆)
+      (bind-in _ unknown
+      (bind-in _ (mask-back b (t .facts) (h .few-facts) (t .goal) (h .goal) (goalAt v) _ w₁₅)
+      (bind-in _ (count-back b 0 256 (omega arith) m (omega arith, h .few-actions) (goalAt v + 8) _ w₂₂)
+      (bind-in _ (items-back (FitsAction (t .facts)) writeAction 24 (λ a _. length-action a) b (action b (t .facts))
+      (action-back b (t .facts) (h .few-facts)) (t .actions) 0 (h .actions) (goalAt v + 8 + 2) rest w₂₄)
+      refl)))))))),
+      at-next b (goalAt v + 8 + 2) (each writeAction (t .actions)) rest w₂₄ (goalAt v + 8 + 2 + 24 * m) (omega arith),
+    )
 
 -- the bytes of a task that fits are a lawful table
-pub task-lawful : (t : Task) → FitsTask t → Lawful (writeTask t) t
-task-lawful t h =
-    let n = length-task t in
-    let e : 24 + 24 * length (t .actions) ≡ 4 + length (writeTask t) = omega arith in
-    task-back (fileOf (writeTask t) []) [] t h (file-at (writeTask t) []) ∙ ap (λ (k : ℕ). found (t, k)) e
+pub task-lawful : (v : ℕ) (t : Task) → FitsTask t → FitsVersion v t → Lawful (writeTask v t) t
+task-lawful v t h k =
+    let table : List ℕ = writeTask v t in
+    let (reads, ends) = task-back (fileOf table []) [] v t h k (file-at table []) in
+    let n = length-file table [] in
+    let s = ends .size in
+    let e : afterActions v (length (t .actions)) ≡ 4 + length table = omega arith in
+    reads ∙ ap (λ (k : ℕ). found (t, k)) e
 
 -- ---- files
 
@@ -86,7 +89,7 @@ certificate-back : (l : Limits) (b : List ℕ) (t : Task) (q : ℕ) (es : List A
     → 4 ≤ length b → FitsSize l (length b) → number 4 b 0 + 4 ≡ length b → readTask b ≡ found (t, q)
     → FitsCertificate t es ss ks → Allowed l ss ks
     → At b q (writeCertificate es ss ks ++ [])
-    → readWithin l b ≡ found (record { task = t; actionSets = es; stateSets = ss; steps = ks })
+    → readWithin l b ≡ found (record { version = number 1 b 4; task = t; actionSets = es; stateSets = ss; steps = ks })
 unfolding readWithin writeCertificate counted
 certificate-back l b t q es ss ks low fits size t! h a w =
     let ft : FitsTask t = task-fits b t q t! in
@@ -130,7 +133,14 @@ file-number table certificate short =
 -- a certificate that fits is read back behind any lawful table
 pub certificate-reads : (l : Limits) (table : List ℕ) (t : Task) (es : List ActionSet) (ss : List StateSet) (ks : List Step)
     → Lawful table t → FitsCertificate t es ss ks → Allowed l ss ks → FitsSize l (length (fileOf table (writeCertificate es ss ks)))
-    → readWithin l (fileOf table (writeCertificate es ss ks)) ≡ found (record { task = t; actionSets = es; stateSets = ss; steps = ks })
+    → readWithin l (fileOf table (writeCertificate es ss ks))
+    ≡ found (record {
+      version = number 1 (fileOf table (writeCertificate es ss ks)) 4;
+      task = t;
+      actionSets = es;
+      stateSets = ss;
+      steps = ks;
+    })
 certificate-reads l table t es ss ks law h a fits =
     let c : List ℕ = writeCertificate es ss ks in
     let b : List ℕ = fileOf table c in
@@ -139,9 +149,18 @@ certificate-reads l table t es ss ks law h a fits =
     certificate-back l b t (4 + length table) es ss ks (omega arith) fits (file-number table c (fits .0)) (lawful-reads table c t law)
     h a (subst (At b (4 + length table)) (sym (append-nil c)) w)
 
+-- the version that was written
+version-back : (v : ℕ) (t : Task) (c : List ℕ) → number 1 (fileOf (writeTask v t) c) 4 ≡ v
+unfolding writeTask
+version-back v t c = byte-back (fileOf (writeTask v t) c) 4 v _ (file-at (writeTask v t) c)
+
 -- a file that fits is read back
 pub reads-back : (l : Limits) (f : File) → Fits l f → FitsSize l (length (writeFile f)) → readWithin l (writeFile f) ≡ found f
 unfolding writeFile
 reads-back l f h size =
-    certificate-reads l (writeTask (f .task)) (f .task) (f .actionSets) (f .stateSets) (f .steps) (task-lawful (f .task) (h .task))
-    (h .certificate) (h .allowed) size
+    let table : List ℕ = writeTask (f .version) (f .task) in
+    let c : List ℕ = writeCertificate (f .actionSets) (f .stateSets) (f .steps) in
+    let v : number 1 (fileOf table c) 4 ≡ f .version = version-back (f .version) (f .task) c in
+    certificate-reads l table (f .task) (f .actionSets) (f .stateSets) (f .steps)
+    (task-lawful (f .version) (f .task) (h .task) (h .version)) (h .certificate) (h .allowed) size
+    ∙ ap (λ (k : ℕ). found (record { version = k; task = f .task; actionSets = f .actionSets; stateSets = f .stateSets; steps = f .steps })) v

@@ -108,21 +108,32 @@ unfolding writeAction
 bytes-action a = bytes-append (bytesOf 8 (a .pre) ++ bytesOf 8 (a .add)) (bytesOf 8 (a .del)) (two-numbers 8 8 (a .pre) (a .add))
     (bytes-number 8 (a .del))
 
-bytes-task : (t : Task) → FitsTask t → AreBytes (writeTask t)
+bytes-unknown : (v : ℕ) (t : Task) → AreBytes (writeUnknown v t)
+unfolding writeUnknown every
+bytes-unknown v t = go (eqb v 1)
+  where
+    go : (b : Bool) → AreBytes (elim b [ true ↦ [] | false ↦ bytesOf 8 (t .unknown) ])
+    go true = tt
+    go false = bytes-number 8 (t .unknown)
+
+bytes-task : (v : ℕ) (t : Task) → FitsTask t → FitsVersion v t → AreBytes (writeTask v t)
 unfolding writeTask counted
-bytes-task t h =
+bytes-task v t h k =
     let few = h .few-facts in
-    bytes-append (1 ∷ t .facts ∷ bytesOf 8 (t .init) ++ bytesOf 8 (t .goal))
+    let small : v < 256 = elim k [ inl e ↦ omega (arith, e .0) | inr e ↦ omega arith ] in
+    bytes-append (v ∷ t .facts ∷ bytesOf 8 (t .init) ++ writeUnknown v t ++ bytesOf 8 (t .goal))
     (bytesOf 2 (length (t .actions)) ++ each writeAction (t .actions))
-    (byte-more 1 _ (omega arith) (byte-more (t .facts) _ (omega arith) (two-numbers 8 8 (t .init) (t .goal))))
+    (byte-more v _ small (byte-more (t .facts) _ (omega arith)
+    (bytes-append (bytesOf 8 (t .init) ++ writeUnknown v t) (bytesOf 8 (t .goal))
+    (bytes-append (bytesOf 8 (t .init)) (writeUnknown v t) (bytes-number 8 (t .init)) (bytes-unknown v t)) (bytes-number 8 (t .goal)))))
     (bytes-append (bytesOf 2 (length (t .actions))) (each writeAction (t .actions)) (bytes-number 2 (length (t .actions)))
     (bytes-all writeAction bytes-action (t .actions)))
 
 pub file-bytes : (l : Limits) (f : File) → Fits l f → AreBytes (writeFile f)
 unfolding writeFile fileOf
 file-bytes l f h =
-    let table : List ℕ = writeTask (f .task) in
+    let table : List ℕ = writeTask (f .version) (f .task) in
     let certificate : List ℕ = writeCertificate (f .actionSets) (f .stateSets) (f .steps) in
     bytes-append (bytesOf 4 (length (table ++ certificate))) (table ++ certificate) (bytes-number 4 (length (table ++ certificate)))
-    (bytes-append table certificate (bytes-task (f .task) (h .task))
+    (bytes-append table certificate (bytes-task (f .version) (f .task) (h .task) (h .version))
     (certificate-bytes (f .actionSets) (f .stateSets) (f .steps) 0 (h .certificate .steps)))

@@ -1,0 +1,98 @@
+-- The field of the unknown facts: it is there or not, as the version says. All that the proofs know of it.
+-- Assumes nothing.
+use mathlib.Core.Path.{_≡_, refl, sym, ap, _∙_, subst}
+use mathlib.Core.Logic.{_⊎_, inl, inr}
+use Prim.Native.Nat.{ℕ, _^_, _<_}
+use native.Mathlib.Nat.{pow-pos}
+use native.Mathlib.Omega.{arith}
+use mathlib.Core.Bool.{Bool, true, false, _||_}
+use mathlib.Core.List.{List, [], _++_}
+use lib.Bits.{bitAnd, and-zero}
+use lib.Dec.{T, eqb, eqb→eq}
+use Rattle.task.specs.Task.{Task}
+use Rattle.task.proofs.Tests.{same, or-cases}
+use Rattle.meaning.specs.Result.{found, _>>=_, need}
+use Rattle.meaning.specs.Bytes.{bytesOf, AreBytes}
+use Rattle.meaning.specs.Layout.{mask, goalAt, unknownMask}
+use Rattle.meaning.specs.Writing.{writeUnknown, FitsTask, FitsVersion}
+use Rattle.meaning.proofs.Results.{found-same, bind-case, bind-in, need-case, need-in}
+use Rattle.meaning.proofs.Given.{mask-gives}
+use Rattle.meaning.proofs.Suffix.{At, after-number}
+use Rattle.meaning.proofs.Back.{mask-back}
+use Rattle.meaning.proofs.Again.{Spans, spans-none, mask-again}
+
+-- what is read of it: none in version 1; else a mask, with no fact of the start s
+pub data Unknown (bytes : List ℕ) (v n s u : ℕ) : Type 0 where
+  none : v ≡ 1 → u ≡ 0 → Unknown bytes v n s u
+  some : eqb v 1 ≡ false → mask bytes n 14 ≡ found u → bitAnd s u ≡ 0 → Unknown bytes v n s u
+
+-- a test that decides between two things
+by-test : {X : Type 0} (b : Bool) → (b ≡ true → X) → (b ≡ false → X) → X
+by-test true h k = h refl
+by-test false h k = k refl
+
+module _ (bytes : List ℕ) (v n s : ℕ) where
+  pub unknown-out : (u : ℕ) → unknownMask bytes v n s ≡ found u → Unknown bytes v n s u
+  unfolding unknownMask
+  unknown-out u e =
+      by-test (eqb v 1)
+      (λ t. none (eqb→eq v 1 (subst T (sym t) tt)) (sym (found-same (rw t at e))))
+      (λ t.
+      bind-case (mask bytes n 14) _ u (rw t at e) λ x x! e₁.
+      need-case (eqb (bitAnd s x) 0) 16 14 _ u e₁ λ h q.
+      let i : x ≡ u = found-same q in
+      some t (rw (← i) x!) (rw (← i) (eqb→eq (bitAnd s x) 0 h)))
+
+  pub unknown-in : {u : ℕ} → Unknown bytes v n s u → unknownMask bytes v n s ≡ found u
+  unfolding unknownMask
+  unknown-in (none e z) = rw (e, z) refl
+  unknown-in (some e u! a) = rw e (bind-in _ u! (bind-in _ (need-in _ 16 14 (same a)) refl))
+
+  -- it fits the format
+  pub unknown-fits : {u : ℕ} → Unknown bytes v n s u → (u < 2 ^ n) × (bitAnd s u ≡ 0)
+  unknown-fits (none e z) = rw z (omega (arith, pow-pos n), and-zero s)
+  unknown-fits (some e u! a) = (mask-gives bytes n 14 _ u!, a)
+
+-- ---- where it is written
+
+-- the goal's mask stands behind it
+goal-after : (v : ℕ) → (v ≡ 1 → goalAt v ≡ 14) × (eqb v 1 ≡ false → goalAt v ≡ 22)
+unfolding goalAt
+goal-after v = ((λ e. rw e refl), (λ e. rw e refl))
+
+written-none : (v : ℕ) (t : Task) → v ≡ 1 → writeUnknown v t ≡ []
+unfolding writeUnknown
+written-none v t e = rw e refl
+
+written-some : (v : ℕ) (t : Task) → eqb v 1 ≡ false → writeUnknown v t ≡ bytesOf 8 (t .unknown)
+unfolding writeUnknown
+written-some v t e = rw e refl
+
+-- the version is 1 or 2
+pub version-known : (v : ℕ) (t : Task) → FitsVersion v t → T (eqb v 1 || eqb v 2)
+version-known v t (inl h) = rw (h .0) tt
+version-known v t (inr h) = rw h tt
+
+pub version-fits : (bytes : List ℕ) (v n s : ℕ) (t : Task) → T (eqb v 1 || eqb v 2) → Unknown bytes v n s (t .unknown) → FitsVersion v t
+version-fits bytes v n s t k (none e z) = inl (e, z)
+version-fits bytes v n s t k (some e u! a) =
+    elim (or-cases (eqb v 1) (eqb v 2) k) [ inl h ↦ absurd (subst T e h) | inr h ↦ inr (eqb→eq v 2 h) ]
+
+-- written, it is read, and the goal's mask stands behind it
+pub unknown-back : (b rest : List ℕ) (v : ℕ) (t : Task) → FitsTask t → FitsVersion v t → At b 14 (writeUnknown v t ++ rest)
+    → (unknownMask b v (t .facts) (t .init) ≡ found (t .unknown)) × At b (goalAt v) rest
+unknown-back b rest v t f (inl h) w =
+    let a : At b 14 rest = subst (λ (x : List ℕ). At b 14 (x ++ rest)) (written-none v t (h .0)) w in
+    (unknown-in b v (t .facts) (t .init) (none (h .0) (h .1)), rw (goal-after v .0 (h .0)) a)
+unknown-back b rest v t f (inr h) w =
+    let e : eqb v 1 ≡ false = rw h refl in
+    let a : At b 14 (bytesOf 8 (t .unknown) ++ rest) = subst (λ (x : List ℕ). At b 14 (x ++ rest)) (written-some v t e) w in (
+      unknown-in b v (t .facts) (t .init) (some e (mask-back b (t .facts) (f .few-facts) (t .unknown) (f .unknown) 14 rest a) (f .apart)),
+      rw (goal-after v .1 e) (after-number b 14 8 (t .unknown) rest a 22 refl),
+    )
+
+-- what was read is what stands there
+pub unknown-again : (bytes : List ℕ) → AreBytes bytes → (v n s : ℕ) (t : Task) → Unknown bytes v n s (t .unknown)
+    → Spans bytes 14 (goalAt v) (writeUnknown v t)
+unknown-again bytes h v n s t (none e z) = rw (written-none v t e, goal-after v .0 e) (spans-none 14 14 refl)
+unknown-again bytes h v n s t (some e u! a) = rw (written-some v t e, goal-after v .1 e) (mask-again bytes h n 14 22 refl (t .unknown) u!)
