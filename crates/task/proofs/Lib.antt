@@ -4,3 +4,4 @@ pub mod Names
 pub mod Moves
 pub mod Closure
 pub mod MaskLaws
+pub mod Submasks
