@@ -5,3 +5,4 @@ pub mod Moves
 pub mod Closure
 pub mod MaskLaws
 pub mod Submasks
+pub mod Initial
