@@ -1,4 +1,4 @@
--- Files that are the same but for what their explicit sets list, each the same states.
+-- Files that are the same but for their version and for what their explicit sets list, each the same states.
 -- Assumes nothing.
 use mathlib.Core.Path.{_≡_}
 use Prim.Native.Nat.{ℕ}

@@ -1,4 +1,5 @@
--- What is said of a file does not depend on how its explicit sets list their states: its checks, whole and in rounds, and its questions.
+-- What is said of a file does not depend on its version, nor on how its explicit sets list their states: its checks, whole and in rounds,
+-- and its questions.
 -- Assumes nothing.
 use mathlib.Core.Path.{_≡_, refl, ap, _∙_}
 use Prim.Native.Nat.{ℕ}
@@ -14,22 +15,29 @@ use Rattle.meaning.proofs.AlikeSteps.{ext₂, varied, in-same, ask-same
 
 -- it is enough to look at files with the same other parts
 by-sets : {R : Type 0} (said : File → R)
-    → ((g : File) (xs : List StateSet) → AlikeSets xs (g .stateSets) → said (varied g xs (g .steps)) ≡ said g)
+    → ((v : ℕ) (g : File) (xs : List StateSet) → AlikeSets xs (g .stateSets) → said (varied v g xs (g .steps)) ≡ said g)
     → (f g : File) → Alike f g → said f ≡ said g
 by-sets said h f g a =
-    ap said (λ i. record { task = a .task i; actionSets = a .action-sets i; stateSets = f .stateSets; steps = a .steps i })
-    ∙ h g (f .stateSets) (a .state-sets)
+    ap said
+    (λ i. record {
+      version = f .version;
+      task = a .task i;
+      actionSets = a .action-sets i;
+      stateSets = f .stateSets;
+      steps = a .steps i;
+    })
+    ∙ h (f .version) g (f .stateSets) (a .state-sets)
 
-steps-same : (g : File) (xs : List StateSet) → AlikeSets xs (g .stateSets) → checkSteps (varied g xs (g .steps)) ≡ checkSteps g
+steps-same : (v : ℕ) (g : File) (xs : List StateSet) → AlikeSets xs (g .stateSets) → checkSteps (varied v g xs (g .steps)) ≡ checkSteps g
 unfolding stepAt
-steps-same g xs h = ext₂ (steps-checked g xs (g .steps) h (λ k. refl))
+steps-same v g xs h = ext₂ (steps-checked v g xs (g .steps) h (λ k. refl))
 
 pub alike-steps : (f g : File) → Alike f g → (i : ℕ) (ks : List Step) → checkSteps f i ks ≡ checkSteps g i ks
-alike-steps f g a i ks = by-sets (λ x. checkSteps x i ks) (λ g xs h. rw (steps-same g xs h)) f g a
+alike-steps f g a i ks = by-sets (λ x. checkSteps x i ks) (λ v g xs h. rw (steps-same v g xs h)) f g a
 
 pub alike-from : (f g : File) → Alike f g → (from : ℕ) → checkFrom f from ≡ checkFrom g from
 unfolding checkFrom stepAt
-alike-from f g a from = by-sets (λ x. checkFrom x from) (λ g xs h. rw (steps-same g xs h)) f g a
+alike-from f g a from = by-sets (λ x. checkFrom x from) (λ v g xs h. rw (steps-same v g xs h)) f g a
 
 pub alike-check : (f g : File) → Alike f g → checkFile f ≡ checkFile g
 unfolding checkFile
@@ -37,13 +45,13 @@ alike-check f g a = alike-from f g a 0
 
 pub alike-round : (f g : File) → Alike f g → (from count : ℕ) → checkRound f from count ≡ checkRound g from count
 unfolding checkRound handBack stepAt
-alike-round f g a from count = by-sets (λ x. checkRound x from count) (λ g xs h. rw (steps-same g xs h)) f g a
+alike-round f g a from count = by-sets (λ x. checkRound x from count) (λ v g xs h. rw (steps-same v g xs h)) f g a
 
 pub alike-askable : (f g : File) → Alike f g → (e s : ℕ) → askable f e s ≡ askable g e s
-alike-askable f g a e s = by-sets (λ x. askable x e s) (λ g xs h. rw (ask-same g xs (g .steps) h)) f g a
+alike-askable f g a e s = by-sets (λ x. askable x e s) (λ v g xs h. rw (ask-same v g xs (g .steps) h)) f g a
 
 pub alike-holds : (f g : File) → Alike f g → (e s : ℕ) → inSet f e s ≡ inSet g e s
-alike-holds f g a e s = by-sets (λ x. inSet x e s) (λ g xs h. rw (in-same g xs (g .steps) h)) f g a
+alike-holds f g a e s = by-sets (λ x. inSet x e s) (λ v g xs h. rw (in-same v g xs (g .steps) h)) f g a
 
 -- with their rules rewritten alike files stay alike
 pub alike-rewritten : (to : ℕ → ℕ) (f g : File) → Alike f g → Alike (rewritten to f) (rewritten to g)

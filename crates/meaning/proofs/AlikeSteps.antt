@@ -1,5 +1,5 @@
--- A file with other lists in its explicit sets, of the same members, and with other rules in its steps: its entries hold the same states
--- and have the same shapes, so a step is checked there alike.
+-- A file with another version, with other lists in its explicit sets, of the same members, and with other rules in its steps: its entries
+-- hold the same states and have the same shapes, so a step is checked there alike.
 -- Assumes nothing.
 use mathlib.Core.Path.{_≡_, refl, ap, _∙_, fun-ext}
 use mathlib.Core.Bool.{Bool, false}
@@ -13,7 +13,7 @@ use Rattle.meaning.specs.File.{empty, explicit, StateSet, basic, complem
 use Rattle.meaning.specs.File.{actionSetAt, stateSetAt, stepAt, basicKind, stateKind, first, second}
 use Rattle.meaning.specs.Sets.{settled, inActions, inBasic, stateNode, inSet, statesWithin, actionsWithin}
 use Rattle.meaning.specs.Shapes.{Sides, kindAt, child, leafNode, leaves, isBasic, isComplement, isLiteral, literalKind, complements}
-use Rattle.meaning.specs.Shapes.{others, movedLeft, movedRight, bracket, used, ofLiterals, ofClauses, ofStates, permitted}
+use Rattle.meaning.specs.Shapes.{others, movedLeft, movedRight, bracket, used, ofLiterals, ofClauses, listsInit, ofStates, permitted}
 use Rattle.meaning.specs.Shapes.{shape₁, shapeWith, shape₂, shape₃, mixed, shape₄}
 use Rattle.meaning.specs.Statements.{statements}
 use Rattle.meaning.specs.Rules.{StatePattern, letter, O, I, G, ∼_, _∩_, _∪_, prog, regr, Pattern, dead, _⊑_, _⊑ᴬ_, unsolvable, _⊢_}
@@ -57,14 +57,14 @@ of-alike : {R : Type 0} (said : StateSet → R) → ByMembers said → (x y : St
 of-alike said m _ _ (same x) = refl
 of-alike said m _ _ (listed ss ss′ h) = m ss ss′ h
 
--- ---- the file with these state sets and steps
+-- ---- the file with this version, these state sets and these steps
 
-abbrev pub varied : File → List StateSet → List Step → File
-varied g xs ks = record { task = g .task; actionSets = g .actionSets; stateSets = xs; steps = ks }
+abbrev pub varied : ℕ → File → List StateSet → List Step → File
+varied v g xs ks = record { version = v; task = g .task; actionSets = g .actionSets; stateSets = xs; steps = ks }
 
-module _ (g : File) (xs : List StateSet) (ks : List Step) (alike : AlikeSets xs (g .stateSets)) where
+module _ (v : ℕ) (g : File) (xs : List StateSet) (ks : List Step) (alike : AlikeSets xs (g .stateSets)) where
   abbrev f : File
-  f = varied g xs ks
+  f = varied v g xs ks
 
   sets-same : length xs ≡ length (g .stateSets)
   sets-same = count-same xs (g .stateSets) alike
@@ -152,7 +152,7 @@ module _ (g : File) (xs : List StateSet) (ks : List Step) (alike : AlikeSets xs 
   moved-same = fun-ext (λ x. rw (bars, literal-kinds))
 
   permitted-same : (m n : Sides → List ℕ) → m ≡ n → permitted f m ≡ permitted g n
-  unfolding complements others movedLeft movedRight bracket used ofLiterals ofClauses ofStates permitted
+  unfolding complements others movedLeft movedRight bracket used ofLiterals ofClauses listsInit ofStates permitted
   permitted-same m n h = fun-ext (λ x. rw (h, kinds, basics, bars, literals, literal-kinds))
 
   with-same : (k : ℕ) (m n : Sides → List ℕ) → m ≡ n → shapeWith f k m ≡ shapeWith g k n

@@ -49,11 +49,11 @@ module _ (g : ℕ → ℕ) where
     -- a step is checked as in the plain file
     pub checked-same : (i : ℕ) (s : Step) → checkStep (rewritten g f) i s ≡ checkStep f i s
     unfolding rewritten
-    checked-same = step-checked f (f .stateSets) (map renamed (f .steps)) (all-same (f .stateSets)) step-stays
+    checked-same = step-checked (f .version) f (f .stateSets) (map renamed (f .steps)) (all-same (f .stateSets)) step-stays
 
     all-checked-same : (i : ℕ) (ss : List Step) → checkSteps (rewritten g f) i ss ≡ checkSteps f i ss
     unfolding rewritten
-    all-checked-same = steps-checked f (f .stateSets) (map renamed (f .steps)) (all-same (f .stateSets)) step-stays
+    all-checked-same = steps-checked (f .version) f (f .stateSets) (map renamed (f .steps)) (all-same (f .stateSets)) step-stays
 
 -- ---- numbers that stand for the same rules
 
