@@ -21,6 +21,8 @@ use Rattle.meaning.specs.Layout.{hornRule, twoCnfRule, mask, reference, 
 use Rattle.meaning.specs.Layout.{entry, entries, readWithin, readFile}
 use Rattle.meaning.specs.Structure.{afterEntries, actionSetCount, stateSetCount, stepCount, listedAt}
 use Rattle.meaning.specs.Small.{above, longLists, breaches}
+use Rattle.meaning.specs.Points.{OfLayout}
+use Rattle.meaning.proofs.Places.{behind-actions}
 use Rattle.meaning.proofs.Results.{no-found, need-in, and-out}
 use Rattle.meaning.proofs.Numbered.{Numbered, given, then-ok, widen}
 use Rattle.meaning.proofs.LayoutFaults.{within, Bodies, field-in, mask-in, reference-in, count-in, step-in, items-in, task-in}
@@ -179,6 +181,7 @@ file-stage l bytes =
     let S : ℕ = stateSetCount bytes in
     let K : ℕ = stepCount bytes in
     let n : ℕ = number 2 bytes K in
+    let low = behind-actions bytes in
     let after : A + 2 ≤ S = after-from bytes (A + 2) (number 2 bytes A) in
     let later : S + 2 ≤ K = after-from bytes (S + 2) (number 2 bytes S) in
     let f = from-append (from-long bytes (l .states) (S + 2) (number 2 bytes S)) (from-above (l .steps) n K later) in

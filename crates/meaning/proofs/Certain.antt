@@ -3,26 +3,30 @@
 use mathlib.Core.Path.{_≡_, refl, sym, ap, _∙_, subst}
 use mathlib.Core.Logic.{_↔_}
 use Prim.Native.Nat.{ℕ, suc, _+_, _*_, _^_, _≤_, _<_}
+use native.Mathlib.Nat.{le-trans}
 use native.Mathlib.Omega.{arith}
 use mathlib.Core.Bool.{Bool, true, false, _&&_, _||_}
 use mathlib.Core.List.{List, [], _∷_}
 use lib.ListN.{length, length-append}
-use lib.Dec.{T, eqb, ltb}
+use lib.Dec.{T, eqb, leb, ltb, le→leb}
+use Rattle.task.specs.Facts.{onesIn}
 use Rattle.task.specs.Task.{Task, actionAt, isInit, isGoal, applies, after, next}
 use Rattle.task.specs.Reach.{member, Unsolvable, Reachable}
 use Rattle.task.proofs.Tests.{and-left, and-right, or-left, never, member-first, member-rest}
 use Rattle.task.proofs.Moves.{Bounded, reach-init, reach-next, reach-lt, reach-safe, safe-unsolvable}
 use Rattle.task.proofs.Closure.{reachable-list}
-use Rattle.meaning.specs.Result.{found, need}
-use Rattle.meaning.specs.Bytes.{bytesOf}
+use Rattle.task.proofs.Initial.{few-unknown-facts, no-more}
+use Rattle.meaning.specs.Result.{found, _>>=_, need}
+use Rattle.meaning.specs.Bytes.{bytesOf, number}
 use Rattle.meaning.specs.File.{File, stepAt}
 use Rattle.meaning.specs.declared.Limits.{Limits}
 use Rattle.meaning.specs.Limits.{full, small}
-use Rattle.meaning.specs.Layout.{readWithin, readFile}
+use Rattle.meaning.specs.Layout.{actionSize, readWithin, readFile}
 use Rattle.meaning.specs.Writing.{AllFrom, FitsCertificate, FitsStep, each, writeEntry, actionBody, basicBody, stateBody}
 use Rattle.meaning.specs.Writing.{writeActionSet, writeStateSet, writeStep, counted, fileOf, writeCertificate, listedStates, Allowed, Lawful}
 use Rattle.meaning.proofs.Results.{bind-in, need-in, found-same}
-use Rattle.meaning.proofs.Reading.{file-read, task-fits, task-end}
+use Rattle.meaning.proofs.Reading.{file-read, task-read, task-fits}
+use Rattle.meaning.proofs.Places.{places, after-actions}
 use Rattle.meaning.proofs.Prefix.{lawful-reads}
 use Rattle.meaning.proofs.Numbers.{length-bytesOf}
 use Rattle.meaning.proofs.Suffix.{length-file}
@@ -43,8 +47,8 @@ use Rattle.meaning.proofs.Computed.{computed}
 use Rattle.meaning.proofs.Judgements.{accepted-is-safe}
 use Rattle.meaning.proofs.Limited.{accepted-full}
 
-abbrev theFile : Task → List ℕ → File
-theFile t ss = record { task = t; actionSets = theActionSets; stateSets = theStateSets ss; steps = theSteps }
+abbrev theFile : ℕ → Task → List ℕ → File
+theFile v t ss = record { version = v; task = t; actionSets = theActionSets; stateSets = theStateSets ss; steps = theSteps }
 
 -- ---- its three basic statements are true
 
@@ -56,9 +60,10 @@ applied a s h = go (applies a s) h
     go true t = refl
     go false t = absurd t
 
-module _ (t : Task) (ss : List ℕ) (lists : (s : ℕ) → T (member s ss) ↔ Reachable t s) (safe : Unsolvable t) where
+module _ (v : ℕ) (t : Task) (ss : List ℕ) (lists : (s : ℕ) → T (member s ss) ↔ Reachable t s) (few : length ss ≤ 2 ^ 12)
+    (safe : Unsolvable t) where
   abbrev f : File
-  f = theFile t ss
+  f = theFile v t ss
 
   -- the sets by their numbers
   set-1 : inSet f 1 ≡ isInit t
@@ -111,7 +116,12 @@ module _ (t : Task) (ss : List ℕ) (lists : (s : ℕ) → T (member s ss) ↔ R
   unfolding computed
   pass-2 = refl
 
-  pass-5 : checkStep f 5 (stepOf 1 1 1 3 0 0 0) ≡ need (statesWithin f 1 3) 11 5
+  -- kind 1 lists its states, since these are all within reach
+  few-unknown : T (leb (onesIn 64 (t .unknown)) 12)
+  few-unknown = le→leb _ 12 (few-unknown-facts t 12 (λ xs d r. le-trans (no-more t ss (λ s. lists s .1) xs d r) few))
+
+  pass-5 : checkStep f 5 (stepOf 1 1 1 3 0 0 0)
+      ≡ (need (leb (onesIn 64 (t .unknown)) 12 || false) 10 5 >>= λ _. need (statesWithin f 1 3) 11 5)
   unfolding computed
   pass-5 = refl
 
@@ -130,7 +140,7 @@ module _ (t : Task) (ss : List ℕ) (lists : (s : ℕ) → T (member s ss) ↔ R
       bind-in _
       (bind-in _ (d .0) (bind-in _ (pass-1 ∙ need-in (statesWithin f 4 5) 11 1 closed)
       (bind-in _ (pass-2 ∙ need-in (statesWithin f 6 0) 11 2 no-goal)
-      (bind-in _ (d .1) (bind-in _ (d .2) (bind-in _ (pass-5 ∙ need-in (statesWithin f 1 3) 11 5 init-listed)
+      (bind-in _ (d .1) (bind-in _ (d .2) (bind-in _ (pass-5 ∙ bind-in _ (need-in _ 10 5 (or-left _ false few-unknown)) (need-in (statesWithin f 1 3) 11 5 init-listed))
       (bind-in _ (d .3) (bind-in _ (d .4) refl))))))))
       (d .5)
 
@@ -175,7 +185,7 @@ steps-fit = (
 record Roomy (l : Limits) : Type 0 where
   states : l .states ≤ full .states
   steps : 8 ≤ l .steps
-  least : 20 + 24 * 256 + 8 * l .states + 142 ≤ l .size
+  least : 28 + 24 * 256 + 8 * l .states + 142 ≤ l .size
   most : l .size ≤ full .size
 
 full-roomy : Roomy full
@@ -194,7 +204,7 @@ certificate-length table ss =
     omega arith
 
 pub certain-length : CertainLength
-certain-length = (certificate-length, refl, refl, omega arith)
+certain-length = (certificate-length, refl, refl, refl, omega arith)
 
 module _ (l : Limits) (room : Roomy l) (table : List ℕ) (t : Task) (lawful : Lawful table t) (ss : List ℕ) (few : length ss ≤ l .states)
     (lists : (s : ℕ) → T (member s ss) ↔ Reachable t s) where
@@ -230,15 +240,23 @@ module _ (l : Limits) (room : Roomy l) (table : List ℕ) (t : Task) (lawful : L
       let none : 0 ≤ l .states = omega arith in
       record { states = (none, (none, (none, (few, (none, (none, (none, tt))))))); steps = room .steps }
 
+  table-length : length table ≤ 28 + 24 * 256
+  table-length =
+      let r = task-read (fileOf table []) t (4 + length table) lawful in
+      let v : ℕ = number 1 (fileOf table []) 4 in
+      let o = places v in
+      let e = after-actions v (length (t .actions)) in
+      let w : actionSize v * length (t .actions) ≡ 24 * length (t .actions) = ap (λ (k : ℕ). k * length (t .actions)) (o .size) in
+      omega (arith, r .ends, r .fits .few-actions)
+
   short : length (fileOf table (certificateOf ss)) ≤ l .size
   short =
       let a = certificate-length table ss in
-      let c = task-end (fileOf table []) t (4 + length table) lawful in
-      let d = task-fits (fileOf table []) t (4 + length table) lawful .few-actions in
+      let c = table-length in
       let e = room .least in
       omega arith
 
-  reads : readWithin l (fileOf table (certificateOf ss)) ≡ found (theFile t ss)
+  reads : readWithin l (fileOf table (certificateOf ss)) ≡ found (theFile (number 1 (fileOf table (certificateOf ss)) 4) t ss)
   unfolding certificateOf
   reads =
       let m = room .most in
@@ -247,7 +265,7 @@ module _ (l : Limits) (room : Roomy l) (table : List ℕ) (t : Task) (lawful : L
 
   accepted : Unsolvable t → replyWithin l (fileOf table (certificateOf ss)) ≡ Accepted
   unfolding replyWithin replyTo
-  accepted safe = ap replyTo (bind-in checkFile reads (steps-pass t ss lists safe))
+  accepted safe = ap replyTo (bind-in checkFile reads (steps-pass _ t ss lists (omega (arith, few, room .states)) safe))
 
 -- ---- the theorems
 

@@ -115,7 +115,7 @@ module _ (lo hi : ℕ) where
 
     pub task-in : lo ≤ 4 → actionSetCount bytes ≤ hi
         → Yields (Within lo hi) (λ t. (t .0 .facts ≡ number 1 bytes 5) × (t .1 ≡ actionSetCount bytes)) (readTask bytes)
-    unfolding readTask actionSetCount
+    unfolding readTask actionSize actionSetCount
     task-in l h =
         let v : ℕ = number 1 bytes 4 in
         let o = places v in

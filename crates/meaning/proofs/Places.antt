@@ -2,11 +2,13 @@
 -- Assumes nothing.
 use mathlib.Core.Path.{_≡_, refl}
 use Prim.Native.Nat.{ℕ, _+_, _*_, _≤_}
-use native.Mathlib.Nat.{le-refl}
 use native.Mathlib.Omega.{arith}
 use mathlib.Core.Bool.{Bool, true, false}
+use mathlib.Core.List.{List}
 use lib.Dec.{eqb}
+use Rattle.meaning.specs.Bytes.{number}
 use Rattle.meaning.specs.Layout.{goalAt, actionCountAt, actionSize, afterActions}
+use Rattle.meaning.specs.Structure.{actionSetCount}
 
 -- the goal's mask stands at 14 or 22, and the count of the actions behind it
 pub record Placed (v : ℕ) : Type 0 where
@@ -26,3 +28,11 @@ places v = record { low = go (eqb v 1) .0; high = go (eqb v 1) .1; next = refl; 
 pub after-actions : (v m : ℕ) → afterActions v m ≡ actionCountAt v + 2 + actionSize v * m
 unfolding afterActions
 after-actions v m = refl
+
+-- the action sets stand behind the count and the actions
+pub behind-count : (bytes : List ℕ) → actionCountAt (number 1 bytes 4) + 2 ≤ actionSetCount bytes
+unfolding actionSetCount
+behind-count bytes = let v : ℕ = number 1 bytes 4 in let e = after-actions v (number 2 bytes (actionCountAt v)) in omega arith
+
+pub behind-actions : (bytes : List ℕ) → 24 ≤ actionSetCount bytes
+behind-actions bytes = let o = places (number 1 bytes 4) in let l = behind-count bytes in omega arith

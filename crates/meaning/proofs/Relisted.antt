@@ -14,6 +14,8 @@ use Rattle.task.proofs.Tests.{excluded}
 use Rattle.meaning.specs.Bytes.{bigEndian, number}
 use Rattle.meaning.specs.Structure.{afterEntries, actionSetCount, stateSetCount, stepCount, listedAt, setAt}
 use Rattle.meaning.specs.Relisted.{InState, Relisted}
+use Rattle.meaning.specs.Layout.{actionCountAt, afterActions}
+use Rattle.meaning.proofs.Places.{behind-count, behind-actions}
 use Rattle.meaning.proofs.Breaches.{statesOf, after-from}
 
 -- ---- where the states of a file are
@@ -134,7 +136,12 @@ module _ {a b : List ℕ} (r : Relisted a b) where
   unfolding actionSetCount
   action-count-same =
       let l = before-sets a in
-      ap (λ (m : ℕ). 24 + 24 * m) (number-same 2 22 (λ p _ u. free-before a p (omega arith) (omega arith)))
+      let h = behind-count a in
+      let o = behind-actions a in
+      let v : ℕ = number 1 a 4 in
+      ap (afterActions v) (number-same 2 (actionCountAt v) (λ p _ u. free-before a p (omega arith) (omega arith)))
+      ∙ ap (λ (w : ℕ). afterActions w (number 2 b (actionCountAt w)))
+      (number-same 1 4 (λ p _ u. free-before a p (omega arith) (omega arith)))
 
   pub set-count-place-same : stateSetCount a ≡ stateSetCount b
   unfolding stateSetCount

@@ -1,14 +1,15 @@
 -- Files that list their explicit states otherwise: what is read where no state is, is the same.
 -- Assumes nothing.
-use mathlib.Core.Path.{_≡_, refl, _∙_}
+use mathlib.Core.Path.{_≡_, refl, ap, _∙_}
 use Prim.Native.Nat.{ℕ, zero, suc, _+_, _-_, _*_, _/_, _≤_}
 use native.Mathlib.Nat.{mul-suc, mul-div-le}
 use native.Mathlib.Omega.{arith}
-use mathlib.Core.Bool.{Bool}
+use mathlib.Core.Bool.{Bool, true, false}
 use mathlib.Core.List.{List, [], _∷_}
 use lib.ListN.{getElem?}
-use lib.Dec.{T, leb, leb→le, eqb→eq}
-use Rattle.meaning.specs.Result.{Result, found, _>>=_, known}
+use lib.Bits.{bitAnd}
+use lib.Dec.{T, leb, eqb, leb→le, eqb→eq}
+use Rattle.meaning.specs.Result.{Result, found, _>>=_, need, known}
 use Rattle.meaning.specs.Bytes.{number, inside}
 use Rattle.meaning.specs.File.{either, explicit, horn, twoCnf, basic, complement, intersection, union, progression, regression}
 use Rattle.meaning.specs.Layout.{hornRule, twoCnfRule, items, ascending, field, count, mask, reference, action, clause, step, Kind}
@@ -18,6 +19,7 @@ use Rattle.meaning.specs.Structure.{actionSetCount}
 use Rattle.meaning.specs.Relisted.{Relisted}
 use Rattle.meaning.proofs.Results.{bind-same}
 use Rattle.meaning.proofs.Numbered.{then-same, need-same}
+use Rattle.meaning.proofs.Places.{places, after-actions}
 use Rattle.meaning.proofs.LayoutFaults.{field-in, count-in}
 use Rattle.meaning.proofs.Breaches.{Tail}
 use Rattle.meaning.proofs.Relisted.{Free, number-same}
@@ -94,7 +96,8 @@ module _ {a b : List ℕ} (r : Relisted a b) (lo hi : ℕ) (free : Free a lo hi)
 
   unknown-eq : (v n s : ℕ) → lo ≤ 14 → 22 ≤ hi → unknownMask a v n s ≡ unknownMask b v n s
   unfolding unknownMask
-  unknown-eq v n s l u = rw (mask-eq n 14 l u)
+  unknown-eq v n s l u =
+      ap (λ x. elim (eqb v 1) [ true ↦ found 0 | false ↦ x >>= λ m. need (eqb (bitAnd s m) 0) 16 14 >>= λ _. found m ]) (mask-eq n 14 l u)
 
   pub task-eq : lo ≤ 4 → actionSetCount a ≤ hi → readTask a ≡ readTask b
   unfolding readTask actionSetCount actionSize

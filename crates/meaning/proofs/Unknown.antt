@@ -3,11 +3,11 @@
 use mathlib.Core.Path.{_≡_, refl, sym, ap, _∙_, subst}
 use mathlib.Core.Logic.{_⊎_, inl, inr}
 use Prim.Native.Nat.{ℕ, _^_, _<_}
-use native.Mathlib.Nat.{pow-pos}
 use native.Mathlib.Omega.{arith}
 use mathlib.Core.Bool.{Bool, true, false, _||_}
 use mathlib.Core.List.{List, [], _++_}
-use lib.Bits.{bitAnd, and-zero}
+use lib.Bits.{bitAnd, and-zero-r}
+use lib.Pow.{pow-pos}
 use lib.Dec.{T, eqb, eqb→eq}
 use Rattle.task.specs.Task.{Task}
 use Rattle.task.proofs.Tests.{same, or-cases}
@@ -36,9 +36,9 @@ module _ (bytes : List ℕ) (v n s : ℕ) where
   unfolding unknownMask
   unknown-out u e =
       by-test (eqb v 1)
-      (λ t. none (eqb→eq v 1 (subst T (sym t) tt)) (sym (found-same (rw t at e))))
+      (λ t. none (eqb→eq v 1 (subst T (sym t) tt)) (sym (found-same (rw (unknownMask, t) at e))))
       (λ t.
-      bind-case (mask bytes n 14) _ u (rw t at e) λ x x! e₁.
+      bind-case (mask bytes n 14) _ u (rw (unknownMask, t) at e) λ x x! e₁.
       need-case (eqb (bitAnd s x) 0) 16 14 _ u e₁ λ h q.
       let i : x ≡ u = found-same q in
       some t (rw (← i) x!) (rw (← i) (eqb→eq (bitAnd s x) 0 h)))
@@ -46,11 +46,11 @@ module _ (bytes : List ℕ) (v n s : ℕ) where
   pub unknown-in : {u : ℕ} → Unknown bytes v n s u → unknownMask bytes v n s ≡ found u
   unfolding unknownMask
   unknown-in (none e z) = rw (e, z) refl
-  unknown-in (some e u! a) = rw e (bind-in _ u! (bind-in _ (need-in _ 16 14 (same a)) refl))
+  unknown-in (some e u! a) = rw (unknownMask, e) (bind-in _ u! (bind-in _ (need-in _ 16 14 (same a)) refl))
 
   -- it fits the format
   pub unknown-fits : {u : ℕ} → Unknown bytes v n s u → (u < 2 ^ n) × (bitAnd s u ≡ 0)
-  unknown-fits (none e z) = rw z (omega (arith, pow-pos n), and-zero s)
+  unknown-fits (none e z) = rw z (omega (arith, pow-pos n), and-zero-r s)
   unknown-fits (some e u! a) = (mask-gives bytes n 14 _ u!, a)
 
 -- ---- where it is written
@@ -58,7 +58,7 @@ module _ (bytes : List ℕ) (v n s : ℕ) where
 -- the goal's mask stands behind it
 goal-after : (v : ℕ) → (v ≡ 1 → goalAt v ≡ 14) × (eqb v 1 ≡ false → goalAt v ≡ 22)
 unfolding goalAt
-goal-after v = ((λ e. rw e refl), (λ e. rw e refl))
+goal-after v = ((λ e. rw e refl), (λ e. rw (goalAt, e) refl))
 
 written-none : (v : ℕ) (t : Task) → v ≡ 1 → writeUnknown v t ≡ []
 unfolding writeUnknown
@@ -66,7 +66,7 @@ written-none v t e = rw e refl
 
 written-some : (v : ℕ) (t : Task) → eqb v 1 ≡ false → writeUnknown v t ≡ bytesOf 8 (t .unknown)
 unfolding writeUnknown
-written-some v t e = rw e refl
+written-some v t e = rw (writeUnknown, e) refl
 
 -- the version is 1 or 2
 pub version-known : (v : ℕ) (t : Task) → FitsVersion v t → T (eqb v 1 || eqb v 2)

@@ -53,17 +53,17 @@ task-back b rest v t h k w =
     let size : length (each writeAction (t .actions)) ≡ 24 * m =
     length-each (λ _. Unit {0}) writeAction 24 (λ a _. length-action a) (t .actions) 0 (anything (t .actions) 0) in (
       bind-in _ (byte-field b v 4 _ w)
-      (bind-in _ (need-in _ 2 4 (version-known v t k))
-      (bind-in _ (byte-field b (t .facts) 5 _ w₅)
-      (bind-in _ (need-in _ 4 5 (and-in (leb 1 (t .facts)) (leb (t .facts) 64) (le→leb 1 (t .facts) (h .some-facts))
-      (le→leb (t .facts) 64 (h .few-facts))))
-      (bind-in _ (mask-back b (t .facts) (h .few-facts) (t .init) (h .init) 6 _ w₆)
-      (bind-in _ unknown
-      (bind-in _ (mask-back b (t .facts) (h .few-facts) (t .goal) (h .goal) (goalAt v) _ w₁₅)
-      (bind-in _ (count-back b 0 256 (omega arith) m (omega arith, h .few-actions) (goalAt v + 8) _ w₂₂)
-      (bind-in _ (items-back (FitsAction (t .facts)) writeAction 24 (λ a _. length-action a) b (action b (t .facts))
-      (action-back b (t .facts) (h .few-facts)) (t .actions) 0 (h .actions) (goalAt v + 8 + 2) rest w₂₄)
-      refl)))))))),
+          (bind-in _ (need-in _ 2 4 (version-known v t k))
+          (bind-in _ (byte-field b (t .facts) 5 _ w₅)
+          (bind-in _ (need-in _ 4 5 (and-in (leb 1 (t .facts)) (leb (t .facts) 64) (le→leb 1 (t .facts) (h .some-facts))
+          (le→leb (t .facts) 64 (h .few-facts))))
+          (bind-in _ (mask-back b (t .facts) (h .few-facts) (t .init) (h .init) 6 _ w₆)
+          (bind-in _ unknown
+          (bind-in _ (mask-back b (t .facts) (h .few-facts) (t .goal) (h .goal) (goalAt v) _ w₁₅)
+          (bind-in _ (count-back b 0 256 (omega arith) m (omega arith, h .few-actions) (goalAt v + 8) _ w₂₂)
+          (bind-in _ (items-back (FitsAction (t .facts)) writeAction 24 (λ a _. length-action a) b (action b (t .facts))
+          (action-back b (t .facts) (h .few-facts)) (t .actions) 0 (h .actions) (goalAt v + 8 + 2) rest w₂₄)
+          refl)))))))),
       at-next b (goalAt v + 8 + 2) (each writeAction (t .actions)) rest w₂₄ (goalAt v + 8 + 2 + 24 * m) (omega arith),
     )
 

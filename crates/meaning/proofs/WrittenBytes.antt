@@ -2,9 +2,11 @@
 -- Assumes nothing.
 use Prim.Native.Nat.{ℕ, zero, suc, _+_, _/_, _%_, _<_}
 use native.Mathlib.Omega.{arith}
+use mathlib.Core.Logic.{inl, inr}
+use mathlib.Core.Bool.{Bool, true, false}
 use mathlib.Core.List.{List, [], _∷_, _++_}
 use lib.ListN.{length}
-use lib.Dec.{ltb, lt→ltb}
+use lib.Dec.{ltb, eqb, lt→ltb}
 use Rattle.task.specs.Reach.{every}
 use Rattle.task.proofs.Tests.{and-left, and-right, and-both}
 use Rattle.task.specs.Task.{Task}
@@ -14,8 +16,8 @@ use Rattle.meaning.specs.Bytes.{bytesOf, AreBytes}
 use Rattle.meaning.specs.File.{ActionSet, all, listed, either, empty, init, goal, explicit, horn, twoCnf, StateSet, basic}
 use Rattle.meaning.specs.File.{complement, intersection, union, progression, regression, Step, File, actionKind, basicKind, stateKind}
 use Rattle.meaning.specs.Writing.{each, writeClause, writeEntry, actionBody, basicBody, stateBody, writeActionSet, writeStateSet}
-use Rattle.meaning.specs.Writing.{writeAction, writeStep, counted, writeTask, writeCertificate, fileOf, writeFile, AllFrom}
-use Rattle.meaning.specs.Writing.{FitsTask, FitsStep, Fits}
+use Rattle.meaning.specs.Writing.{writeAction, writeStep, counted, writeUnknown, writeTask, writeCertificate, fileOf, writeFile, AllFrom}
+use Rattle.meaning.specs.Writing.{FitsTask, FitsVersion, FitsStep, Fits}
 use Rattle.meaning.specs.declared.Limits.{Limits}
 use Rattle.meaning.proofs.Written.{anything}
 
