@@ -92,6 +92,7 @@ task-read bytes t end e =
     (w .acts!) in
     let u = unknown-fits bytes (w .v) (w .n) (w .s) (w .u!) in
     let i : w .v ≡ number 1 bytes 4 = sym (field-out bytes 1 4 (w .v) (w .v!) .1) in
+    let r : Task = record { facts = w .n; init = w .s; unknown = w .u; goal = w .g; actions = w .acts } in
     subst (λ (x : Task × ℕ). TaskRead bytes (x .0) (x .1)) (w .whole)
     (record {
       fits = record {
@@ -104,7 +105,7 @@ task-read bytes t end e =
         few-actions = subst (λ (l : ℕ). l ≤ 256) (sym (h .0)) (count-gives bytes 0 256 _ (w .m) (w .m!) .1);
         actions = h .1;
       };
-      version = rw (← i) (version-fits bytes (w .v) (w .n) (w .s) _ (w .known) (w .u!));
+      version = rw (← i) (version-fits bytes (w .v) (w .n) (w .s) r (w .known) (w .u!));
       ends = rw (← i, h .0) refl;
     })
 
