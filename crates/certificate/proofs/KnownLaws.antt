@@ -16,7 +16,9 @@ use Rattle.certificate.specs.declared.BasicEntry.the-variants.{Empty}
 use Rattle.certificate.specs.declared.StateEntry.the-variants.{Basic}
 use Rattle.certificate.specs.declared.Judgement.the-variants.{Dead}
 use Rattle.meaning.specs.File.{actionSetAt, stateSetAt, stepAt}
-use Rattle.certificate.specs.Views.{placesOf, stateEntryAt, actionEntryAt, viewOf, viewOfBasic, viewOfActions, actionIn, stepRead}
+use Rattle.meaning.specs.Layout.{actionCountAt}
+use Rattle.certificate.specs.Views.{placesOf, stateEntryAt, actionEntryAt, viewOf, viewOfBasic, viewOfActions, stepRead}
+use Rattle.certificate.specs.Views.{actionsIn, actionIn}
 use Rattle.certificate.specs.Views.{judgementOf, judgementAt}
 use Rattle.certificate.specs.Index.{statePlace, actionPlace}
 use Rattle.certificate.specs.Known.{decoded, IsRead, Known, Placed}
@@ -25,7 +27,7 @@ use Rattle.meaning.proofs.Reading.{Read, file-read}
 use Rattle.meaning.proofs.Order.{Ordered, ordered}
 use Rattle.meaning.proofs.TaskBounds.{fits-bounded}
 use Rattle.task.proofs.Moves.{Bounded}
-use Rattle.certificate.proofs.ViewLaws.{PlacesFit, places-fit, action-at, action-count-at, step-at, indexed-state-set}
+use Rattle.certificate.proofs.ViewLaws.{PlacesFit, places-fit, action-at, version-at, action-count-at, step-at, indexed-state-set}
 use Rattle.certificate.proofs.ViewLaws.{indexed-action-set}
 
 past : {A : Type 0} (xs : List A) (i : ℕ) (d : A) → length xs ≤ i → getD xs i d ≡ d
@@ -49,10 +51,16 @@ module _ (bytes : List ℕ) (r : IsRead bytes) where
   read-bounded = fits-bounded (decoded bytes .task) (read-file .task)
 
   -- its actions
-  pub read-action-count : numberAt 2 bytes 22 ≡ length (decoded bytes .task .actions)
-  read-action-count = action-count-at bytes (decoded bytes) r
+  pub read-version : numberAt 1 bytes 4 ≡ decoded bytes .version
+  read-version = version-at bytes (decoded bytes) r
 
-  pub read-action : (i : ℕ) → i < length (decoded bytes .task .actions) → actionIn bytes (24 + 24 * i) ≡ actionAt (decoded bytes .task) i
+  pub read-actions : record { at = actionCountAt (decoded bytes .version) + 2; count = numberAt 2 bytes (actionCountAt (decoded bytes .version)) }
+      ≡ actionsIn (decoded bytes)
+  unfolding actionsIn
+  read-actions = λ i. record { at = actionCountAt (decoded bytes .version) + 2; count = action-count-at bytes (decoded bytes) r i }
+
+  pub read-action : (i : ℕ) → i < length (decoded bytes .task .actions)
+      → actionIn bytes (actionsIn (decoded bytes) .at + 24 * i) ≡ actionAt (decoded bytes .task) i
   read-action i l = action-at bytes (decoded bytes) r i l
 
   pub read-no-action : (i : ℕ) → length (decoded bytes .task .actions) ≤ i

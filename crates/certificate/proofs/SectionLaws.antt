@@ -12,9 +12,11 @@ use Rattle.meaning.specs.Bytes.{number}
 use Rattle.meaning.specs.File.{ActionSet, StateSet, Step, File}
 use Rattle.meaning.specs.Limits.{full}
 use Rattle.meaning.specs.Layout.{action, step, Kind, actionKinds, stateKinds, entry, entries, readTask, readFile}
+use Rattle.meaning.specs.Layout.{actionCountAt, actionSize, afterActions}
 use Rattle.bytes.specs.Numbers.{numberAt}
 use Rattle.certificate.specs.Views.{afterEntry, entryPlace, placesOf, actionIn, stepRead}
 use Rattle.meaning.proofs.Reading.{task-walked, file-walked}
+use Rattle.meaning.proofs.Again.{field-out}
 use Rattle.meaning.proofs.Results.{found-same, bind-case}
 use Rattle.bytes.proofs.ByteLaws.{number-in}
 use Rattle.certificate.proofs.ItemLaws.{Items, items-stand, count-stands, action-stands, step-stands}
@@ -85,24 +87,32 @@ module _ {A : Type 0} (bytes : List ℕ) (S : ℕ → A → Type 0) where
 
 -- ---- the file
 
-task-stands : (bytes : List ℕ) (r : Task × ℕ) → readTask bytes ≡ found r
-    → (r .1 ≡ 24 + 24 * length (r .0 .actions)) × (numberAt 2 bytes 22 ≡ length (r .0 .actions))
-    × Items bytes 24 (actionIn bytes) 24 (r .0 .actions)
+-- the task's actions stand behind their count, where the version has it
+record TaskStands (bytes : List ℕ) (v : ℕ) (t : Task) (end : ℕ) : Type 0 where
+  end! : end ≡ afterActions v (length (t .actions))
+  count : numberAt 2 bytes (actionCountAt v) ≡ length (t .actions)
+  actions : Items bytes 24 (actionIn bytes) (actionCountAt v + 2) (t .actions)
+  inside : 5 ≤ length bytes
+
+task-stands : (bytes : List ℕ) (r : Task × ℕ) → readTask bytes ≡ found r → TaskStands bytes (number 1 bytes 4) (r .0) (r .1)
+unfolding actionSize
 task-stands bytes r e =
     let w = task-walked bytes r e in
-    let c = count-stands bytes 0 256 22 (w .m) (w .m!) in
-    let h = items-stand bytes 24 (actionIn bytes) (action bytes (w .n)) (action-stands bytes (w .n)) (w .m) 24 (w .acts) (c .0)
-    (w .acts!) in
-    subst (λ (x : Task × ℕ). (x .1 ≡ 24 + 24 * length (x .0 .actions)) × (numberAt 2 bytes 22 ≡ length (x .0 .actions))
-    × Items bytes 24 (actionIn bytes) 24 (x .0 .actions))
-    (w .whole)
-    (ap (λ (k : ℕ). 24 + 24 * k) (sym (h .0)), c .1 ∙ sym (h .0), h .1)
+    let v : ℕ = w .v in
+    let o = field-out bytes 1 4 v (w .v!) in
+    let c = count-stands bytes 0 256 (actionCountAt v) (w .m) (w .m!) in
+    let h = items-stand bytes 24 (actionIn bytes) (action bytes (w .n)) (action-stands bytes (w .n)) (w .m) (actionCountAt v + 2) (w .acts)
+    (c .0) (w .acts!) in
+    subst (λ (x : Task × ℕ). TaskStands bytes (number 1 bytes 4) (x .0) (x .1)) (w .whole)
+    (rw (o .1)
+    (record { end! = ap (afterActions v) (sym (h .0)); count = c .1 ∙ sym (h .0); actions = h .1; inside = o .0 }))
 
 -- where everything stands; the steps end the file
 pub record Parts (bytes : List ℕ) (f : File) : Type 0 where
   pub short : length bytes ≤ 65536
-  pub action-count : numberAt 2 bytes 22 ≡ length (f .task .actions)
-  pub actions : Items bytes 24 (actionIn bytes) 24 (f .task .actions)
+  pub version : numberAt 1 bytes 4 ≡ f .version
+  pub action-count : numberAt 2 bytes (actionCountAt (f .version)) ≡ length (f .task .actions)
+  pub actions : Items bytes 24 (actionIn bytes) (actionCountAt (f .version) + 2) (f .task .actions)
   pub actionSets : Entries bytes (ActionSetStands bytes) (placesOf bytes f .«action_sets_at») (f .actionSets)
   pub stateSets : Entries bytes (StateSetStands bytes) (placesOf bytes f .«state_sets_at») (f .stateSets)
   pub steps : Items bytes 12 (stepRead bytes) (placesOf bytes f .«steps_at») (f .steps)
@@ -110,23 +120,25 @@ pub record Parts (bytes : List ℕ) (f : File) : Type 0 where
 
 -- the same for a file put together from its parts, at the places after them
 parts-at : (bytes : List ℕ) (t : Task) (es : List ActionSet) (ss : List StateSet) (ks : List Step) (a s k : ℕ)
-    → a ≡ 24 + 24 * length (t .actions) → s ≡ entryPlace bytes (a + 2) (length es) → k ≡ entryPlace bytes (s + 2) (length ss)
-    → length bytes ≤ 65536 → numberAt 2 bytes 22 ≡ length (t .actions) → Items bytes 24 (actionIn bytes) 24 (t .actions)
+    → TaskStands bytes (number 1 bytes 4) t a → s ≡ entryPlace bytes (a + 2) (length es) → k ≡ entryPlace bytes (s + 2) (length ss)
+    → length bytes ≤ 65536
     → Entries bytes (ActionSetStands bytes) (a + 2) es
     → Entries bytes (StateSetStands bytes) (s + 2) ss → Items bytes 12 (stepRead bytes) (k + 2) ks → length bytes ≤ k + 2 + 12 * length ks
-    → Parts bytes (record { task = t; actionSets = es; stateSets = ss; steps = ks })
+    → Parts bytes (record { version = number 1 bytes 4; task = t; actionSets = es; stateSets = ss; steps = ks })
 unfolding placesOf
-parts-at bytes t es ss ks a s k a! s! k! short many acts aes sss kks end =
-    let n : a + 2 ≡ 26 + 24 * length (t .actions) = omega arith in
-    let s₁ : s + 2 ≡ entryPlace bytes (26 + 24 * length (t .actions)) (length es) + 2 =
+parts-at bytes t es ss ks a s k h s! k! short aes sss kks end =
+    let p : ℕ = afterActions (number 1 bytes 4) (length (t .actions)) + 2 in
+    let n : a + 2 ≡ p = ap (λ (q : ℕ). q + 2) (h .end!) in
+    let s₁ : s + 2 ≡ entryPlace bytes p (length es) + 2 =
     ap (λ (q : ℕ). q + 2) (s! ∙ ap (λ (q : ℕ). entryPlace bytes q (length es)) n) in
-    let k₁ : k + 2 ≡ entryPlace bytes (entryPlace bytes (26 + 24 * length (t .actions)) (length es) + 2) (length ss) + 2 =
+    let k₁ : k + 2 ≡ entryPlace bytes (entryPlace bytes p (length es) + 2) (length ss) + 2 =
     ap (λ (q : ℕ). q + 2) (k! ∙ ap (λ (q : ℕ). entryPlace bytes q (length ss)) s₁) in
     let i = kks .inside in
     record {
       short = short;
-      action-count = many;
-      actions = acts;
+      version = number-in 1 bytes 4 (h .inside);
+      action-count = h .count;
+      actions = h .actions;
       actionSets = subst (λ (q : ℕ). Entries bytes (ActionSetStands bytes) q es) n aes;
       stateSets = subst (λ (q : ℕ). Entries bytes (StateSetStands bytes) q ss) s₁ sss;
       steps = subst (λ (q : ℕ). Items bytes 12 (stepRead bytes) q ks) k₁ kks;
@@ -150,5 +162,5 @@ file-parts bytes f e =
     let n = d .0 in
     let l = w .last in
     subst (Parts bytes) (w .whole)
-    (parts-at bytes (t .0) (w .es .0) (w .ss .0) (w .ks) (t .1) (w .es .1) (w .ss .1) (a .0) (b .1) (c .1) (w .short) (a .1) (a .2) (b .2)
+    (parts-at bytes (t .0) (w .es .0) (w .ss .0) (w .ks) (t .1) (w .es .1) (w .ss .1) a (b .1) (c .1) (w .short) (b .2)
     (c .2) (d .1) (omega arith))

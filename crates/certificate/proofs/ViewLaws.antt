@@ -10,11 +10,12 @@ use Rattle.task.specs.Inner.{endsOf}
 use Rattle.certificate.specs.declared.Places.{Places}
 use Rattle.meaning.specs.Result.{found}
 use Rattle.meaning.specs.File.{all, basic, empty, File, actionSetAt, stateSetAt, stepAt}
-use Rattle.meaning.specs.Layout.{readFile}
+use Rattle.meaning.specs.Layout.{actionCountAt, afterActions, readFile}
 use Rattle.bytes.specs.Numbers.{numberAt}
-use Rattle.certificate.specs.Views.{entryPlace, placesOf, actionIn, stepRead}
+use Rattle.certificate.specs.Views.{entryPlace, placesOf, actionsIn, actionIn, stepRead}
 use Rattle.certificate.specs.Index.{capped, statePlace, actionPlace, Table}
 use Rattle.meaning.proofs.Reading.{file-read}
+use Rattle.meaning.proofs.Places.{behind-task}
 use Rattle.certificate.proofs.EntryLaws.{StateSetStands, ActionSetStands}
 use Rattle.certificate.proofs.SectionLaws.{place-le, place-before, Parts, file-parts}
 
@@ -28,7 +29,7 @@ pub record PlacesFit (bytes : List ℕ) (at : Places) : Type 0 where
   pub few-state-sets : at .«state_sets» ≤ 512
   pub some-steps : 1 ≤ at .steps
   pub few-steps : at .steps ≤ 2048
-  pub after-actions : at .«action_sets_at» ≡ 26 + 24 * at .actions
+  pub after-actions : 26 ≤ at .«action_sets_at»
   pub after-action-sets : at .«action_sets_at» + 2 ≤ at .«state_sets_at»
   pub after-state-sets : at .«state_sets_at» + 2 ≤ at .«steps_at»
   pub after-steps : at .«steps_at» + 12 * at .steps ≡ length bytes
@@ -42,7 +43,7 @@ module _ (bytes : List ℕ) (f : File) (r : readFile bytes ≡ found f) where
   places-fit =
       let p = parts in
       let h = file-read bytes f r in
-      let a : ℕ = 26 + 24 * length (f .task .actions) in
+      let a : ℕ = afterActions (f .version) (length (f .task .actions)) + 2 in
       let s : ℕ = entryPlace bytes a (length (f .actionSets)) + 2 in
       let u = place-le bytes a (length (f .actionSets)) in
       let v = place-le bytes s (length (f .stateSets)) in
@@ -55,7 +56,7 @@ module _ (bytes : List ℕ) (f : File) (r : readFile bytes ≡ found f) where
         few-state-sets = h .few-state-sets;
         some-steps = h .some-steps;
         few-steps = h .few-steps;
-        after-actions = refl;
+        after-actions = (let o = behind-task (f .version) (length (f .task .actions)) in omega arith);
         after-action-sets = omega arith;
         after-state-sets = omega arith;
         after-steps = sym (p .end);
@@ -72,12 +73,15 @@ module _ (bytes : List ℕ) (f : File) (r : readFile bytes ≡ found f) where
   unfolding actionSetAt
   action-set-at e l = parts .actionSets .here all e l
 
-  -- action i is the one that stands 24 bytes for each before it after byte 24
-  pub action-at : (i : ℕ) → i < length (f .task .actions) → actionIn bytes (24 + 24 * i) ≡ actionAt (f .task) i
-  unfolding actionAt
+  -- action i is the one that stands 24 bytes for each before it behind the count
+  pub action-at : (i : ℕ) → i < length (f .task .actions) → actionIn bytes (actionsIn f .at + 24 * i) ≡ actionAt (f .task) i
+  unfolding actionAt actionsIn
   action-at i l = parts .actions .here _ i l
 
-  pub action-count-at : numberAt 2 bytes 22 ≡ length (f .task .actions)
+  pub version-at : numberAt 1 bytes 4 ≡ f .version
+  version-at = parts .version
+
+  pub action-count-at : numberAt 2 bytes (actionCountAt (f .version)) ≡ length (f .task .actions)
   action-count-at = parts .action-count
 
   -- step k is what stands at its place

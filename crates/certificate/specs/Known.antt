@@ -14,7 +14,13 @@ use Rattle.certificate.specs.Rows.{statesOf, InOrder}
 
 -- the file that was read; the other value stands where none was
 unfoldable pub readOr : Result File → File
-readOr (refuse r p) = record { task = record { facts = 0; init = 0; goal = 0; actions = [] }; actionSets = []; stateSets = []; steps = [] }
+readOr (refuse r p) = record {
+  version = 0;
+  task = record { facts = 0; init = 0; unknown = 0; goal = 0; actions = [] };
+  actionSets = [];
+  stateSets = [];
+  steps = [];
+}
 readOr (found f) = f
 
 unfoldable pub decoded : List ℕ → File

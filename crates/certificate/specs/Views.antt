@@ -27,7 +27,7 @@ use Rattle.meaning.specs.File as file
 use Rattle.meaning.specs.File.{ActionSet, all, listed, either, empty, init, goal, explicit, horn, twoCnf}
 use Rattle.meaning.specs.File.{StateSet, basic, complement, intersection, union, progression, regression, Step, File, stepAt}
 use Rattle.meaning.specs.declared.Limits.{Limits}
-use Rattle.meaning.specs.Layout.{readWithin}
+use Rattle.meaning.specs.Layout.{actionCountAt, afterActions, readWithin}
 use Rattle.bytes.specs.Numbers.{numberAt}
 
 -- the place after the entry at place p
@@ -42,7 +42,7 @@ entryPlace bytes p (suc k) = afterEntry bytes (entryPlace bytes p k)
 -- the numbers of a file that was read, and the places of its entries and steps
 unfoldable pub placesOf : List ℕ → File → Places
 placesOf bytes f =
-    let a : ℕ = 26 + 24 * length (f .task .actions) in
+    let a : ℕ = afterActions (f .version) (length (f .task .actions)) + 2 in
     let s : ℕ = entryPlace bytes a (length (f .actionSets)) + 2 in
     let k : ℕ = entryPlace bytes s (length (f .stateSets)) + 2 in
     record {
@@ -130,6 +130,10 @@ viewOfActions p (listed is) = Listed (span p is)
 viewOfActions p (either a b) = Either a b
 
 -- ---- actions and steps
+
+-- where the actions of a file that was read stand, and how many there are
+unfoldable pub actionsIn : File → Span
+actionsIn f = record { at = actionCountAt (f .version) + 2; count = length (f .task .actions) }
 
 -- the action at place p
 unfoldable pub actionIn : List ℕ → ℕ → Action

@@ -29,10 +29,14 @@ pub after-actions : (v m : ℕ) → afterActions v m ≡ actionCountAt v + 2 + a
 unfolding afterActions
 after-actions v m = refl
 
+pub behind-task : (v m : ℕ) → 24 ≤ afterActions v m
+behind-task v m = let o = places v in let e = after-actions v m in omega arith
+
 -- the action sets stand behind the count and the actions
 pub behind-count : (bytes : List ℕ) → actionCountAt (number 1 bytes 4) + 2 ≤ actionSetCount bytes
 unfolding actionSetCount
 behind-count bytes = let v : ℕ = number 1 bytes 4 in let e = after-actions v (number 2 bytes (actionCountAt v)) in omega arith
 
 pub behind-actions : (bytes : List ℕ) → 24 ≤ actionSetCount bytes
-behind-actions bytes = let o = places (number 1 bytes 4) in let l = behind-count bytes in omega arith
+unfolding actionSetCount
+behind-actions bytes = behind-task (number 1 bytes 4) _
