@@ -19,9 +19,8 @@ pub struct EntryHead {
     pub kind: u8,
 }
 
-// The task's numbers, from the version to the count of actions.
+// The task's numbers behind the version, up to the count of actions.
 pub struct TaskHead {
-    pub version: u8,
     pub facts: u8,
     pub init: u64,
     pub goal: u64,
@@ -75,22 +74,19 @@ pub fn entry_head(file: &[u8], place: u32) -> EntryHead
     EntryHead { len, kind }
 }
 
-// The head of the task: one reader walks on from each field to the next.
-pub fn task_head(file: &[u8]) -> TaskHead
-    ensures { λ h. ⌜ h ≡ taskHeadAt (now (file .entry)) ⌝ }
+// The head of the task, whose goal's mask stands `span` bytes after the initial state's: one reader walks on from each field to the next.
+pub fn task_head(file: &[u8], span: u8) -> TaskHead
+    ensures { λ h. ⌜ h ≡ taskHeadAt (now (file .entry)) span ⌝ }
 {
-    let mut r = reader_at(file, 4);
-    let version = byte(r);
-    r = past(r, 1);
+    let mut r = reader_at(file, 5);
     let facts = byte(r);
     r = past(r, 1);
     let init = word(r);
-    r = past(r, 8);
+    r = past(r, span as usize);
     let goal = word(r);
     r = past(r, 8);
     let actions = half(r);
     TaskHead {
-        version,
         facts,
         init,
         goal,
