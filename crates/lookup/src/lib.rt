@@ -1,11 +1,13 @@
 // Entries, actions and steps of a file whose layout was checked, each as the file that was read has it. A number that names none gives what
 // the definitions have there.
+use bytes::byte_at;
 use bytes::u16_at;
 use certificate::ActionEntry;
 use certificate::BasicEntry;
 use certificate::Index;
 use certificate::Judgement;
 use certificate::Places;
+use certificate::Span;
 use certificate::StateEntry;
 use certificate::Step;
 use certificate::views::action_at;
@@ -13,12 +15,12 @@ use certificate::views::action_entry;
 use certificate::views::state_entry;
 use certificate::views::step_in;
 use task::Action;
+use versions::action_count_at;
 ghost use mathlib.Core.Path.{_≡_};
 ghost use Prim.Native.Nat.{_<_};
-ghost use lib.ListN.{length};
 ghost use Rattle.task.specs.Task.{actionAt};
 ghost use Rattle.meaning.specs.File.{actionSetAt, stateSetAt, stepAt};
-ghost use Rattle.certificate.specs.Views.{viewOf, viewOfActions, stepOf, judgementAt};
+ghost use Rattle.certificate.specs.Views.{viewOf, viewOfActions, actionsIn, stepOf, judgementAt};
 ghost use Rattle.certificate.specs.Index.{statePlace, actionPlace};
 ghost use Rattle.certificate.specs.Known.{decoded, IsRead, Known, Placed};
 
@@ -60,27 +62,31 @@ pub fn action_set(file: &[u8], index: &Index, a: u16) -> ActionEntry
     action_entry(file, place)
 }
 
-// How many actions the task has.
-pub fn action_count(file: &[u8]) -> u16
+// Where the task's actions stand, and how many there are.
+pub fn actions(file: &[u8]) -> Span
     requires { ⌜ IsRead (now file) ⌝ }
-    ensures { λ r. ⌜ r ≡ length (decoded (now (file .entry)) .task .actions) ⌝ }
+    ensures { λ r. ⌜ r ≡ actionsIn (decoded (now (file .entry))) ⌝ }
 {
-    u16_at(file, 22)
+    let at = action_count_at(byte_at(file, 4));
+    Span {
+        at: at + 2,
+        count: u16_at(file, at as usize),
+    }
 }
 
-// The action with a number; one that does nothing where the number names none.
-pub fn action(file: &[u8], i: u16) -> Action
-    requires { ⌜ IsRead (now file) ⌝ }
+// The action with a number, of those; one that does nothing where the number names none.
+pub fn action(file: &[u8], all: Span, i: u16) -> Action
+    requires { ⌜ IsRead (now file) × (all ≡ actionsIn (decoded (now file))) ⌝ }
     ensures { λ r. ⌜ r ≡ actionAt (decoded (now (file .entry)) .task) i ⌝ }
 {
-    if action_count(file) <= i {
+    if all.count <= i {
         return Action {
             pre: 0,
             add: 0,
             del: 0,
         };
     }
-    action_at(file, i)
+    action_at(file, all.at, i)
 }
 
 // The step with a number.

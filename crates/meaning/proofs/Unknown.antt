@@ -16,6 +16,7 @@ use Rattle.meaning.specs.Bytes.{bytesOf, AreBytes}
 use Rattle.meaning.specs.Layout.{mask, goalAt, unknownMask}
 use Rattle.meaning.specs.Writing.{writeUnknown, FitsTask, FitsVersion}
 use Rattle.meaning.proofs.Results.{found-same, bind-case, bind-in, need-case, need-in}
+use Rattle.meaning.proofs.Places.{goal-first, goal-later}
 use Rattle.meaning.proofs.Given.{mask-gives}
 use Rattle.meaning.proofs.Suffix.{At, after-number}
 use Rattle.meaning.proofs.Back.{mask-back}
@@ -25,6 +26,9 @@ use Rattle.meaning.proofs.Again.{Spans, spans-none, mask-again}
 pub data Unknown (bytes : List ℕ) (v n s u : ℕ) : Type 0 where
   none : v ≡ 1 → u ≡ 0 → Unknown bytes v n s u
   some : eqb v 1 ≡ false → mask bytes n 14 ≡ found u → bitAnd s u ≡ 0 → Unknown bytes v n s u
+
+not-one : (v : ℕ) → eqb v 1 ≡ false → v ≡ 1 → ⊥
+not-one v e i = let z : true ≡ false = sym (rw i refl) ∙ e in subst T z tt
 
 -- a test that decides between two things
 by-test : {X : Type 0} (b : Bool) → (b ≡ true → X) → (b ≡ false → X) → X
@@ -55,11 +59,6 @@ module _ (bytes : List ℕ) (v n s : ℕ) where
 
 -- ---- where it is written
 
--- the goal's mask stands behind it
-goal-after : (v : ℕ) → (v ≡ 1 → goalAt v ≡ 14) × (eqb v 1 ≡ false → goalAt v ≡ 22)
-unfolding goalAt
-goal-after v = ((λ e. rw e refl), (λ e. rw (goalAt, e) refl))
-
 written-none : (v : ℕ) (t : Task) → v ≡ 1 → writeUnknown v t ≡ []
 unfolding writeUnknown
 written-none v t e = rw e refl
@@ -83,16 +82,16 @@ pub unknown-back : (b rest : List ℕ) (v : ℕ) (t : Task) → FitsTask t → F
     → (unknownMask b v (t .facts) (t .init) ≡ found (t .unknown)) × At b (goalAt v) rest
 unknown-back b rest v t f (inl h) w =
     let a : At b 14 rest = subst (λ (x : List ℕ). At b 14 (x ++ rest)) (written-none v t (h .0)) w in
-    (unknown-in b v (t .facts) (t .init) (none (h .0) (h .1)), rw (goal-after v .0 (h .0)) a)
+    (unknown-in b v (t .facts) (t .init) (none (h .0) (h .1)), rw (goal-first v (h .0)) a)
 unknown-back b rest v t f (inr h) w =
     let e : eqb v 1 ≡ false = rw h refl in
     let a : At b 14 (bytesOf 8 (t .unknown) ++ rest) = subst (λ (x : List ℕ). At b 14 (x ++ rest)) (written-some v t e) w in (
       unknown-in b v (t .facts) (t .init) (some e (mask-back b (t .facts) (f .few-facts) (t .unknown) (f .unknown) 14 rest a) (f .apart)),
-      rw (goal-after v .1 e) (after-number b 14 8 (t .unknown) rest a 22 refl),
+      rw (goal-later v (not-one v e)) (after-number b 14 8 (t .unknown) rest a 22 refl),
     )
 
 -- what was read is what stands there
 pub unknown-again : (bytes : List ℕ) → AreBytes bytes → (v n s : ℕ) (t : Task) → Unknown bytes v n s (t .unknown)
     → Spans bytes 14 (goalAt v) (writeUnknown v t)
-unknown-again bytes h v n s t (none e z) = rw (written-none v t e, goal-after v .0 e) (spans-none 14 14 refl)
-unknown-again bytes h v n s t (some e u! a) = rw (written-some v t e, goal-after v .1 e) (mask-again bytes h n 14 22 refl (t .unknown) u!)
+unknown-again bytes h v n s t (none e z) = rw (written-none v t e, goal-first v e) (spans-none 14 14 refl)
+unknown-again bytes h v n s t (some e u! a) = rw (written-some v t e, goal-later v (not-one v e)) (mask-again bytes h n 14 22 refl (t .unknown) u!)

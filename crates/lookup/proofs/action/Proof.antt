@@ -1,20 +1,28 @@
 -- `lookup::action`: past the last action the default, else what stands at its place.
 -- Assumes nothing.
-use mathlib.Core.Path.{_∙_}
+use mathlib.Core.Path.{_≡_, _∙_}
+use Prim.Native.Nat.{_≤_}
 use borrow.Author.Needs.{needs}
+use native.Mathlib.Omega.{arith}
+use Rattle.certificate.specs.Views.{actionsIn}
 use Rattle.certificate.proofs.KnownLaws.{read-action, read-no-action}
 use Rattle.lookup.proofs.action.Statement.{statement}
 use Rattle.lookup.proofs.action.Tie as tie
 
 returns : tie.Need-returns
+unfolding actionsIn
 returns c =
     let s = c .before .before .before in
-    read-no-action _ (s .pre) (s .args .i) (rw (c .before .action-count .ensures) at (c .if1 .taken))
+    let p = s .pre in
+    read-no-action _ (p .0) (s .args .i) (rw (p .1) at (c .if1 .taken))
 
 returns-2 : tie.Need-returns-2
+unfolding actionsIn
 returns-2 c =
     let s = c .before .before .before .before in
-    c .action-at .ensures ∙ read-action _ (s .pre) (s .args .i) (rw (c .before .before .action-count .ensures) at (c .before .if1 .left))
+    let p = s .pre in
+    let l = rw (p .1) at (c .before .if1 .left) in
+    c .action-at .ensures ∙ rw (p .1) (read-action _ (p .0) (s .args .i) (omega (arith, l)))
 
 pub action-spec : {M : Type 1} → statement M
-action-spec = tie.close (tie.spec (λ c κs. search needs) returns (λ c κs. search needs) returns-2)
+action-spec = tie.close (tie.spec returns (λ c κs. search needs) returns-2)

@@ -1,0 +1,28 @@
+-- `lookup::actions`: the version says where the count stands, and the actions stand behind it.
+-- Assumes nothing.
+use mathlib.Core.Path.{_≡_, ap, _∙_}
+use Prim.Native.Nat.{ℕ, _+_}
+use native.Mathlib.Omega.{arith}
+use borrow.Author.Needs.{needs}
+use Rattle.bytes.specs.Numbers.{numberAt}
+use Rattle.meaning.specs.Layout.{actionCountAt}
+use Rattle.meaning.proofs.Places.{places}
+use Rattle.certificate.specs.declared.Span.{Span}
+use Rattle.certificate.proofs.KnownLaws.{read-version, read-actions}
+use Rattle.lookup.proofs.actions.Statement.{statement}
+use Rattle.lookup.proofs.actions.Tie as tie
+
+fits : tie.Need-add-t4
+fits c = let o = places (c .before .byte-at .result) in record { fits = omega (arith, c .action-count-at .ensures) }
+
+returns : tie.Need-returns
+returns c =
+    let r = c .before .before .before .before .pre in
+    let at : c .before .action-count-at .result ≡ actionCountAt _ =
+    c .before .action-count-at .ensures ∙ ap actionCountAt (c .before .before .byte-at .ensures ∙ read-version _ r) in
+    let n = c .u16-at .ensures ∙ ap (numberAt 2 _) at in
+    (λ i. record { at = at i + 2; count = n i }) ∙ read-actions _ r
+
+pub actions-spec : {M : Type 1} → statement M
+actions-spec =
+    tie.close (tie.spec (λ c κs. search needs) (λ c κs. search needs) fits (λ c. search needs) (λ c κs. search needs) returns)
