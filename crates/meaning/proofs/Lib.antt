@@ -51,3 +51,4 @@ pub mod RelistedParts
 pub mod Twins
 pub mod RelistedSets
 pub mod RelistedReads
+pub mod Versions
