@@ -52,3 +52,4 @@ pub mod Twins
 pub mod RelistedSets
 pub mod RelistedReads
 pub mod Versions
+pub mod Moved
