@@ -53,3 +53,4 @@ pub mod RelistedSets
 pub mod RelistedReads
 pub mod Versions
 pub mod Moved
+pub mod MovedReads
