@@ -54,3 +54,4 @@ pub mod RelistedReads
 pub mod Versions
 pub mod Moved
 pub mod MovedReads
+pub mod MovedFiles

@@ -20,7 +20,7 @@ use Rattle.meaning.proofs.Moved.{number-moved, inside-moved}
 -- ---- places
 
 -- a byte from 14 on has moved, one before it has not, and the place of another refusal is no byte
-pub later : (r p q : ℕ) → T (leb r 7 || eqb r 16 || eqb r 19) → 14 ≤ p → p + 8 ≡ q → movedPlace r p ≡ q
+later : (r p q : ℕ) → T (leb r 7 || eqb r 16 || eqb r 19) → 14 ≤ p → p + 8 ≡ q → movedPlace r p ≡ q
 unfolding movedPlace ofBytes
 later r p q t l e =
     let c : Bool = leb r 7 || eqb r 16 || eqb r 19 in
@@ -60,7 +60,7 @@ need-moved {c = true} r p q i e = rw i (both refl)
 need-moved {c = false} r p q i e = rw i (moved e)
 
 -- a test of a byte from 14 on
-need-later : {c d : Bool} {p q : ℕ} (r : ℕ) → d ≡ c → T (leb r 7 || eqb r 16 || eqb r 19) → 14 ≤ p → p + 8 ≡ q
+pub need-later : {c d : Bool} {p q : ℕ} (r : ℕ) → d ≡ c → T (leb r 7 || eqb r 16 || eqb r 19) → 14 ≤ p → p + 8 ≡ q
     → Same (need c r p) (need d r q)
 need-later {p = p} {q = q} r i t l e = need-moved r p q i (later r p q t l e)
 
