@@ -44,6 +44,7 @@ pub mod Rounds
 pub mod Runs
 pub mod Certain
 pub mod Shallow
+pub mod StepRefusals
 pub mod Refusals
 pub mod Limited
 pub mod Relisted

@@ -20,7 +20,8 @@ use Rattle.meaning.proofs.Numbered.{Yields, refused, given, Numbered}
 use Rattle.meaning.proofs.LayoutFaults.{Within}
 use Rattle.meaning.proofs.Stages.{From, empty, first, Stage, fault, fine, breach}
 use Rattle.meaning.proofs.Breaches.{file-stage, read-alike}
-use Rattle.meaning.proofs.Refusals.{OfSteps, check-ok, reply-number, refusal-numbers}
+use Rattle.meaning.proofs.StepRefusals.{OfSteps, check-ok}
+use Rattle.meaning.proofs.Refusals.{reply-number, refusal-numbers}
 
 pub full-limits : FullLimits
 unfolding replyWithin replyOf readFile

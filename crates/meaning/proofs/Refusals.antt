@@ -2,61 +2,25 @@
 -- question.
 -- Assumes nothing.
 use mathlib.Core.Path.{_≡_, refl}
-use Prim.Native.Nat.{ℕ, suc, _+_, _≤_}
-use mathlib.Core.Bool.{Bool, true, false, _&&_}
+use Prim.Native.Nat.{ℕ, _+_, _≤_}
+use mathlib.Core.Bool.{Bool, true, false}
 use mathlib.Core.Logic.{_⊎_, inl, inr}
 use mathlib.Core.Option.{Option, none, some}
-use mathlib.Core.List.{List, [], _∷_, _++_}
+use mathlib.Core.List.{List}
 use native.Mathlib.Omega.{arith}
-use lib.ListN.{length}
-use lib.Dec.{T, leb, ltb, leb→le}
 use Rattle.meaning.specs.Result.{Result, refuse, found}
-use Rattle.meaning.specs.File.{Step, File}
 use Rattle.meaning.specs.Layout.{readFile}
-use Rattle.meaning.specs.Rules.{_⊢_}
-use Rattle.meaning.specs.Step.{Check, statement, derivation, checkBy, checkStep}
 use Rattle.meaning.specs.declared.Reply.the-variants.{Refused}
-use Rattle.meaning.specs.Reply.{checkSteps, checkFrom, checkFile, replyTo, replyOf}
+use Rattle.meaning.specs.Reply.{replyTo, replyOf}
 use Rattle.meaning.specs.declared.Answer.the-variants as answer
 use Rattle.meaning.specs.Question.{answerTo, answerOf}
-use Rattle.meaning.specs.Numbering.{checkUnused, checkNumbers, checkRewritten, replyNumbered}
+use Rattle.meaning.specs.Numbering.{checkNumbers, checkRewritten, replyNumbered}
 use Rattle.meaning.specs.declared.Round.the-variants as round
-use Rattle.meaning.specs.Rounds.{handBack, checkRound, roundTo, roundOf}
+use Rattle.meaning.specs.Rounds.{checkRound, roundTo, roundOf}
 use Rattle.meaning.specs.Points.{OfFile, OfLayout, RefusalNumbers, NumberedRefusals, RoundRefusals, AnswerNumbers}
-use Rattle.meaning.proofs.Results.{and-out}
-use Rattle.meaning.proofs.Numbered.{given, Numbered, number-of, then-ok, need-ok, known-ok, either-ok, widen, forget}
+use Rattle.meaning.proofs.Numbered.{given, Numbered, number-of, then-ok, need-ok, widen}
+use Rattle.meaning.proofs.StepRefusals.{OfSteps, steps-ok, check-ok, hand-back-ok, numbers-ok}
 use Rattle.meaning.proofs.Breaches.{read-number}
-
--- ---- the steps, 8 to 12
-
-abbrev pub OfSteps : ℕ → ℕ → Type 0
-OfSteps r p = (8 ≤ r) × (r ≤ 12)
-
-of-steps : (r : ℕ) → T (leb 8 r && leb r 12) → (8 ≤ r) × (r ≤ 12)
-of-steps r t = let b = and-out (leb 8 r) (leb r 12) t in (leb→le 8 r (b .0), leb→le r 12 (b .1))
-
-module _ (f : File) where
-  by-ok : (i : ℕ) (s : Step) (c : Check) → Numbered OfSteps (checkBy f i s c)
-  unfolding checkBy
-  by-ok i s (statement b) = then-ok (need-ok _ 10 i (of-steps 10 tt)) (λ _ _. forget (need-ok _ 11 i (of-steps 11 tt)))
-  by-ok i s (derivation (ps ⊢ c)) =
-      then-ok (known-ok _ 9 i (of-steps 9 tt)) (λ _ _. then-ok (known-ok _ 9 i (of-steps 9 tt)) (λ _ _. given tt))
-
-  steps-ok : (i : ℕ) (ss : List Step) → Numbered OfSteps (checkSteps f i ss)
-  unfolding checkSteps checkStep
-  steps-ok i [] = given tt
-  steps-ok i (s ∷ ss) =
-      then-ok
-      (then-ok (known-ok _ 8 i (of-steps 8 tt)) (λ r _. then-ok (need-ok _ 8 i (of-steps 8 tt)) (λ _ _. by-ok i s r)))
-      (λ _ _. steps-ok (suc i) ss)
-
-  pub check-ok : Numbered OfSteps (checkFile f)
-  unfolding checkFile checkFrom
-  check-ok = then-ok (steps-ok 0 _) (λ _ _. forget (need-ok _ 12 _ (of-steps 12 tt)))
-
-  hand-back-ok : (n : ℕ) → Numbered OfSteps (handBack f n)
-  unfolding handBack
-  hand-back-ok n = either-ok (ltb n (length (f .steps))) (given tt) (then-ok (need-ok _ 12 _ (of-steps 12 tt)) (λ _ _. given tt))
 
 -- ---- replies
 
@@ -86,16 +50,6 @@ refusal-numbers bytes =
     reply-number (then-ok (layout-among OfCheck (λ r p h. h) bytes) (λ f _. steps-among OfCheck (λ r p h. h) (check-ok f)))
 
 -- ---- with a caller's list: those, or 18
-
-module _ (ok : ℕ → ℕ → Type 0) (h : (p : ℕ) → ok 18 p) where
-  unused-ok : (earlier xs : List ℕ) → Numbered ok (checkUnused earlier xs)
-  unfolding checkUnused
-  unused-ok earlier [] = given tt
-  unused-ok earlier (x ∷ xs) = then-ok (need-ok _ 18 _ (h _)) (λ _ _. unused-ok (earlier ++ x ∷ []) xs)
-
-  numbers-ok : (numbers : List ℕ) → Numbered ok (checkNumbers numbers)
-  unfolding checkNumbers
-  numbers-ok numbers = then-ok (need-ok _ 18 _ (h _)) (λ _ _. unused-ok [] numbers)
 
 pub list-number : (numbers : List ℕ) (r p : ℕ) → checkNumbers numbers ≡ refuse r p → r ≡ 18
 list-number numbers r p e = number-of (numbers-ok (λ r p. r ≡ 18) (λ p. refl) numbers) e

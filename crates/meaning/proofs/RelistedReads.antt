@@ -31,7 +31,8 @@ use Rattle.meaning.specs.Points.{SameInAnyOrder, OrderAlike, LimitedOrde
 use Rattle.meaning.specs.Points.{AnswerOrderAlike, FirstWrongState, NoOrderFault}
 use Rattle.meaning.proofs.LayoutFaults.{count-in, items-in, step-in, task-in}
 use Rattle.meaning.proofs.Breaches.{action-table, entry-stage}
-use Rattle.meaning.proofs.Refusals.{check-ok, reply-number}
+use Rattle.meaning.proofs.StepRefusals.{check-ok}
+use Rattle.meaning.proofs.Refusals.{reply-number}
 use Rattle.meaning.proofs.Relisted.{setCount, before-sets, action-set-ends, Free, free-before, free-head, free-rest}
 use Rattle.meaning.proofs.Relisted.{number-same}
 use Rattle.meaning.proofs.RelistedParts.{items-eq, count-eq, step-eq, task-eq, entry-eq, action-kinds-eq}
