@@ -56,3 +56,4 @@ pub mod Versions
 pub mod Moved
 pub mod MovedReads
 pub mod MovedFiles
+pub mod TwinForm
