@@ -5,8 +5,8 @@ use mathlib.Core.Logic.{_⊎_, inl, inr}
 use Prim.Native.Nat.{ℕ, zero, suc, _+_, _-_, _/_, _%_, _≤_, _<_}
 use native.Mathlib.Omega.{arith}
 use mathlib.Core.List.{List, [], _∷_, _++_, append-assoc}
-use lib.ListN.{length, take, drop, length-append, length-drop}
-use lib.Seq.{drop-drop, drop-at, length-take-le}
+use lib.ListN.{length, take, drop, length-drop}
+use lib.Seq.{drop-drop, length-take-le}
 use lib.Dec.{leb, ltb, eqb, le→leb, leb→le, ltb→lt, nltb→le, eqb→eq}
 use Rattle.task.proofs.Tests.{excluded, both-ways, same}
 use Rattle.meaning.specs.Bytes.{bigEndian, bytesOf, number, inside, AreBytes}
@@ -43,10 +43,10 @@ unfolding bytesOf bigEndian
 word x l = elim (excluded (ltb x 4294967296)) [
   | inl t ↦ inl (bigEndian-bytesOf 4 x (ltb→lt x 4294967296 t))
   | inr t ↦
-    let h : 4294967296 ≤ x = nltb→le x 4294967296 t in
-    let e : x / 256 ≡ 16777216 = omega arith in
-    let r : x % 256 < 8 = omega arith in
-    inr (rw e (omega arith), h)
+      let h : 4294967296 ≤ x = nltb→le x 4294967296 t in
+      let e : x / 256 ≡ 16777216 = omega arith in
+      let r : x % 256 < 8 = omega arith in
+      inr (rw e (omega arith), h)
 ]
 
 module _ (a : List ℕ) (long : 14 ≤ length a) where
@@ -134,13 +134,13 @@ module _ (a : List ℕ) (long : 14 ≤ length a) where
         let w : Word (n + 8) m = subst⁻¹ (Word (n + 8)) length-read (word (n + 8) (omega arith)) in
         elim w [
           | inl e ↦
-            both-ways (eqb (m + 4) (length b)) (eqb (n + 4) (length a))
-            (λ i. let j = eqb→eq (m + 4) (length b) i in same {m = n + 4} {n = length a} (omega arith))
-            (λ i. let j = eqb→eq (n + 4) (length a) i in same {m = m + 4} {n = length b} (omega arith))
+              both-ways (eqb (m + 4) (length b)) (eqb (n + 4) (length a))
+              (λ i. let j = eqb→eq (m + 4) (length b) i in same {m = n + 4} {n = length a} (omega arith))
+              (λ i. let j = eqb→eq (n + 4) (length a) i in same {m = m + 4} {n = length b} (omega arith))
           | inr e ↦
-            let small : m < 8 = e .0 in
-            let large : 4294967296 ≤ n + 8 = e .1 in
-            both-ways (eqb (m + 4) (length b)) (eqb (n + 4) (length a))
-            (λ i. let j = eqb→eq (m + 4) (length b) i in absurd (omega arith))
-            (λ i. let j = eqb→eq (n + 4) (length a) i in absurd (omega arith))
+              let small : m < 8 = e .0 in
+              let large : 4294967296 ≤ n + 8 = e .1 in
+              both-ways (eqb (m + 4) (length b)) (eqb (n + 4) (length a))
+              (λ i. let j = eqb→eq (m + 4) (length b) i in absurd (omega arith))
+              (λ i. let j = eqb→eq (n + 4) (length a) i in absurd (omega arith))
         ]

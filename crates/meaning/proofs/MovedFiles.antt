@@ -56,8 +56,10 @@ module _ (a : List ℕ) (long : 14 ≤ length a) where
   unfolding mask movedPlace ofBytes
   start-kept n =
       let t : length b ≡ length a + 8 = twin-length a long in
-      rw (field-found a 8 6 (number 8 a 6) (omega arith) refl,
-      field-found b 8 6 (number 8 a 6) (omega arith) (number-kept a long 8 6 (omega arith) (omega arith)))
+      rw (
+        field-found a 8 6 (number 8 a 6) (omega arith) refl,
+        field-found b 8 6 (number 8 a 6) (omega arith) (number-kept a long 8 6 (omega arith) (omega arith)),
+      )
       (bind-same (both refl) λ m. bind-same (need-moved 5 6 6 refl refl) λ _. both refl)
 
   -- no fact is unknown
@@ -76,17 +78,25 @@ module _ (a : List ℕ) (long : 14 ≤ length a) where
   sizes : (m : ℕ) → length a + 8 ≤ m → leb 4 (length b) && leb (length b) m ≡ leb 4 (length a) && leb (length a) m
   sizes m h =
       let t : length b ≡ length a + 8 = twin-length a long in
-      rw (few m h, is-true (leb 4 (length b)) (le→leb 4 (length b) (omega arith)), is-true (leb 4 (length a)) (le→leb 4 (length a) (omega arith)))
+      rw (
+        few m h,
+        is-true (leb 4 (length b)) (le→leb 4 (length b) (omega arith)),
+        is-true (leb 4 (length a)) (le→leb 4 (length a) (omega arith)),
+      )
 
   module _ (one : number 1 a 4 ≡ 1) where
+    -- the task, and the file
     task-moved : Moved Ends (readTask a) (readTask b)
     unfolding readTask unknownMask goalAt actionCountAt actionSize afterActions movedPlace ofBytes _>>=_
     task-moved =
         let t : length b ≡ length a + 8 = twin-length a long in
         let n : ℕ = number 1 a 5 in
-        rw (field-found a 1 4 1 (omega arith) one, field-found b 1 4 2 (omega arith) (version-two a long),
-        field-found a 1 5 n (omega arith) refl,
-        field-found b 1 5 n (omega arith) (number-kept a long 1 5 (omega arith) (omega arith)))
+        rw (
+          field-found a 1 4 1 (omega arith) one,
+          field-found b 1 4 2 (omega arith) (version-two a long),
+          field-found a 1 5 n (omega arith) refl,
+          field-found b 1 5 n (omega arith) (number-kept a long 1 5 (omega arith) (omega arith)),
+        )
         (bind-same (need-moved 2 4 4 refl refl) λ _.
         bind-same (need-moved 4 5 5 refl refl) λ _.
         bind-same (start-kept n) λ s. rw (unknown-none n s)
@@ -170,7 +180,8 @@ unfolding replyTo movedReply checkRewritten readFile _>>=_
 numbered to (refused {r = r} {p = p} h) = λ _ _ _ _ _. ap (Refused r) (sym (unmoved r p h))
 numbered to (given h) =
     twin-said movedReply replyTo (λ r p. refl) (λ _. refl) (λ f. checkFile (rewritten to f))
-    (λ f g h. alike-check (rewritten to f) (rewritten to g) (alike-rewritten to f g h)) (λ f. widen own-step (check-ok (rewritten to f))) full
+    (λ f g h. alike-check (rewritten to f) (rewritten to g) (alike-rewritten to f g h))
+    (λ f. widen own-step (check-ok (rewritten to f))) full
 
 twin-numbered : (numbers : List ℕ) → SameAsTwin full movedReply (λ bytes. replyNumbered bytes numbers)
 unfolding replyNumbered ofBytes

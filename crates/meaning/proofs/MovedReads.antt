@@ -1,16 +1,16 @@
 -- The readings of a version 1 file and of its twin, side by side: the same refusals, from place 14 on 8 bytes later, or values that go
 -- together.
 -- Assumes nothing.
-use mathlib.Core.Path.{_≡_, refl, sym, ap, _∙_}
-use Prim.Native.Nat.{ℕ, zero, suc, _+_, _-_, _*_, _/_, _^_, _≤_, _<_}
+use mathlib.Core.Path.{_≡_, refl, sym, ap}
+use Prim.Native.Nat.{ℕ, zero, suc, _+_, _-_, _/_, _≤_}
 use native.Mathlib.Omega.{arith}
 use mathlib.Core.Bool.{Bool, true, false, not, _&&_, _||_}
 use mathlib.Core.List.{List, [], _∷_}
 use lib.ListN.{length, getElem?}
-use lib.Dec.{T, leb, ltb, eqb, le→leb}
+use lib.Dec.{T, leb, eqb, le→leb}
 use Rattle.task.proofs.Tests.{and-both, is-true}
 use Rattle.meaning.specs.Result.{Result, refuse, found, _>>=_, need, known}
-use Rattle.meaning.specs.Bytes.{number, inside}
+use Rattle.meaning.specs.Bytes.{number}
 use Rattle.meaning.specs.File.{either, explicit, horn, twoCnf, basic, complement, intersection, union, progression, regression}
 use Rattle.meaning.specs.Layout.{hornRule, twoCnfRule, items, ascending, field, count, mask, reference, action, clause, step, Kind}
 use Rattle.meaning.specs.Layout.{plain, one, two, clauses, actionKinds, stateKinds, entry, entries}
@@ -80,7 +80,8 @@ module _ (a : List ℕ) (long : 14 ≤ length a) where
 
   -- ---- items one after the other
 
-  pub items-moved : {A : Type 0} (size : ℕ) {f g : ℕ → Result A} → Reads f g → (k : ℕ) → Reads (λ p. items f size p k) (λ p. items g size p k)
+  pub items-moved : {A : Type 0} (size : ℕ) {f g : ℕ → Result A} → Reads f g → (k : ℕ)
+      → Reads (λ p. items f size p k) (λ p. items g size p k)
   unfolding items
   items-moved size h zero p q l e = both refl
   items-moved size h (suc k) p q l e =

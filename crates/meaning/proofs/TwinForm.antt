@@ -71,6 +71,9 @@ module _ (bytes : List ℕ) (h : AreBytes bytes) (long : 22 ≤ length bytes) (t
   its-length = let s = at-goal .size in let e = length-drop 22 bytes in omega arith
 
 pub twin-form : TwinForm
-twin-form bytes h long two zeros e =
-    (a bytes h long two zeros e, byte-back _ 4 1 _ (at-version bytes h long two zeros e),
-    its-length bytes h long two zeros e, its-twin bytes h long two zeros e)
+twin-form bytes h long two zeros e = (
+  a bytes h long two zeros e,
+  byte-back _ 4 1 _ (at-version bytes h long two zeros e),
+  its-length bytes h long two zeros e,
+  its-twin bytes h long two zeros e,
+)
