@@ -11,7 +11,7 @@ use lib.Seq.{drop-drop, append-snoc}
 use lib.Dec.{leb, ltb, leb→le, ltb→lt}
 use Rattle.task.specs.declared.Action.{Action}
 use Rattle.task.specs.Reach.{every}
-use Rattle.task.proofs.Tests.{and-left, and-right}
+use Rattle.task.proofs.Tests.{and-left, and-right, and-both}
 use Rattle.meaning.specs.declared.Clause.{Clause}
 use Rattle.meaning.specs.Result.{Result, found, _>>=_, need}
 use Rattle.meaning.specs.Bytes.{bigEndian, bytesOf, number, inside, AreBytes}
@@ -57,7 +57,14 @@ bytes-again (suc k) j a (x ∷ xs) h l =
     ∙ ap (λ (z : ℕ). bytesOf j a ++ z ∷ [] ++ take k xs) m
     ∙ append-snoc (bytesOf j a) x (take k xs)
 
-bytes-drop : (p : ℕ) (xs : List ℕ) → AreBytes xs → AreBytes (drop p xs)
+pub bytes-take : (k : ℕ) (xs : List ℕ) → AreBytes xs → AreBytes (take k xs)
+unfolding every
+bytes-take zero xs h = tt
+bytes-take (suc k) [] h = h
+bytes-take (suc k) (x ∷ xs) h =
+    and-both (ltb x 256) (every (λ b. ltb b 256) (take k xs)) (and-left (ltb x 256) _ h) (bytes-take k xs (and-right (ltb x 256) _ h))
+
+pub bytes-drop : (p : ℕ) (xs : List ℕ) → AreBytes xs → AreBytes (drop p xs)
 unfolding every
 bytes-drop zero xs h = h
 bytes-drop (suc p) [] h = h

@@ -11,7 +11,8 @@ use Rattle.meaning.specs.Versions.{twin}
 use Rattle.meaning.specs.Points.{TwinForm}
 use Rattle.meaning.proofs.Numbers.{number-lt}
 use Rattle.meaning.proofs.Suffix.{At, whole, at-next, number-back, after-number, byte-back, after-byte}
-use Rattle.meaning.proofs.Again.{Spans, joined, number-spans, byte-spans}
+use Rattle.meaning.proofs.Again.{Spans, joined, bytes-take, bytes-drop, number-spans, byte-spans}
+use Rattle.meaning.proofs.WrittenBytes.{byte-more, bytes-append, bytes-number}
 
 module _ (bytes : List ℕ) (h : AreBytes bytes) (long : 22 ≤ length bytes) (two : number 1 bytes 4 ≡ 2) (zeros : number 8 bytes 14 ≡ 0)
     (whole-length : number 4 bytes 0 + 4 ≡ length bytes) where
@@ -67,12 +68,19 @@ module _ (bytes : List ℕ) (h : AreBytes bytes) (long : 22 ≤ length bytes) (t
   unfolding twin
   its-twin = rw (length-read, kept-read, at-goal .suffix) (sym (front-spans .split))
 
+  its-bytes : AreBytes a
+  its-bytes =
+      bytes-append (bytesOf 4 (n - 8)) (1 ∷ (kept ++ rest)) (bytes-number 4 (n - 8))
+      (byte-more 1 (kept ++ rest) (omega arith)
+      (bytes-append kept rest (bytes-take 9 (drop 5 bytes) (bytes-drop 5 bytes h)) (bytes-drop 22 bytes h)))
+
   its-length : length a + 8 ≡ length bytes
   its-length = let s = at-goal .size in let e = length-drop 22 bytes in omega arith
 
 pub twin-form : TwinForm
 twin-form bytes h long two zeros e = (
   a bytes h long two zeros e,
+  its-bytes bytes h long two zeros e,
   byte-back _ 4 1 _ (at-version bytes h long two zeros e),
   its-length bytes h long two zeros e,
   its-twin bytes h long two zeros e,

@@ -408,4 +408,4 @@ TwinChecks =
 abbrev pub TwinForm : Type 0
 TwinForm =
     (bytes : List ℕ) → AreBytes bytes → 22 ≤ length bytes → number 1 bytes 4 ≡ 2 → number 8 bytes 14 ≡ 0 → number 4 bytes 0 + 4 ≡ length bytes
-    → (a : List ℕ) × (number 1 a 4 ≡ 1) × (length a + 8 ≡ length bytes) × (twin a ≡ bytes)
+    → (a : List ℕ) × AreBytes a × (number 1 a 4 ≡ 1) × (length a + 8 ≡ length bytes) × (twin a ≡ bytes)
