@@ -71,7 +71,7 @@ fails-by s c t true f h =
 fails-by s c t false f h = bit-one f s (λ z. never (meets s c) (by-met s c false f h z) t)
 
 -- a clause with a fact on both sides is met by every state
-pub always : (s : ℕ) (c : Clause) (f : ℕ) → Has c true f → Has c false f → T (meets s c)
+always : (s : ℕ) (c : Clause) (f : ℕ) → Has c true f → Has c false f → T (meets s c)
 always s c f u v =
     elim (decLt (bit f s) 1) [ yes l ↦ by-met s c false f v (omega arith) | no l ↦ by-met s c true f u (omega (arith, bit-le f s)) ]
 

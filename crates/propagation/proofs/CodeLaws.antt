@@ -1,39 +1,18 @@
--- The code's tests on masks, as what the definitions say.
+-- A clause pulled through an action: the code's tests on masks, as what the definitions say.
 -- Assumes nothing.
-use Prim.Native.Nat.{ℕ, _/_, _%_, _^_}
+use Prim.Native.Nat.{ℕ}
 use mathlib.Core.Path.{_≡_, refl, ap, _∙_}
 use mathlib.Core.Bool.{true, false}
 use native.Mathlib.Omega.{arith}
 use lib.Bits.{bitAnd, bitOr, and-zero-r}
 use lib.Dec.{eqb}
-use borrow.Author.Tests.{eq-eqb, ne-eqb}
+use borrow.Author.Tests.{eq-eqb}
 use Rattle.task.specs.Facts.{without}
 use Rattle.meaning.specs.declared.Clause.{Clause}
-use Rattle.task.specs.Inner.{bit, has, noAction}
+use Rattle.task.specs.Inner.{noAction}
 use Rattle.propagation.specs.declared.Effect.{Effect}
-use Rattle.propagation.specs.Clauses.{sameAs, onIn, effectOf, metBy, pulledBy}
+use Rattle.propagation.specs.Clauses.{effectOf, metBy, pulledBy}
 use Rattle.words.proofs.HitLaws.{neither}
-
--- ---- one fact
-
-module _ (m i b : ℕ) (q : b ≡ 2 ^ i) where
-  pub same-on : m / 2 ^ i % 2 ≡ 1 → record { positive = b; negative = 0 } ≡ sameAs m i
-  unfolding sameAs has bit
-  same-on e = rw (q, eq-eqb (m / 2 ^ i % 2) 1 e, sameAs)
-
-  pub same-off : (m / 2 ^ i % 2 ≡ 1 → ⊥) → record { positive = 0; negative = b } ≡ sameAs m i
-  unfolding sameAs has bit
-  same-off e = rw (q, ne-eqb (m / 2 ^ i % 2) 1 e, sameAs)
-
-  pub on-on : m / 2 ^ i % 2 ≡ 1 → record { positive = b; negative = 0 } ≡ onIn m i
-  unfolding onIn has bit
-  on-on e = rw (q, eq-eqb (m / 2 ^ i % 2) 1 e, onIn)
-
-  pub on-off : (m / 2 ^ i % 2 ≡ 1 → ⊥) → record { positive = b; negative = b } ≡ onIn m i
-  unfolding onIn has bit
-  on-off e = rw (q, ne-eqb (m / 2 ^ i % 2) 1 e, onIn)
-
--- ---- pulled through an action
 
 -- the action that does nothing changes nothing
 pub no-effect : record { add = 0; gone = 0; changed = 0 } ≡ effectOf noAction

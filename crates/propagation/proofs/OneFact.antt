@@ -7,10 +7,9 @@ use native.Mathlib.Decide.{decLt}
 use native.Mathlib.Nat.{pow-suc, pos-of-ne-zero}
 use lib.Arith.{bin-ind}
 use lib.Bits.{bitAnd, and-step, and-self}
-use Rattle.task.specs.Facts.{without}
+use Rattle.task.specs.Facts.{without, onesIn}
 use Rattle.task.specs.Inner.{bit}
 use Rattle.task.proofs.Bits.{bit-le, bit-none, bit-zero, bit-suc, bit-without, some-bit, same-bits}
-use Rattle.meaning.specs.Layout.{onesIn}
 
 -- a fact of an empty mask is off, and a mask that is not 0 has a fact
 pub off-in : {m : ℕ} → m ≡ 0 → (f : ℕ) → bit f m ≡ 0
@@ -40,6 +39,17 @@ bit-only (suc f) (suc i) e =
 pub bit-other : (f i : ℕ) → (f ≡ i → ⊥) → bit f (2 ^ i) ≡ 0
 bit-other f i h =
     elim (decLt (bit f (2 ^ i)) 1) [ yes l ↦ omega arith | no l ↦ absurd (h (bit-only f i (omega (arith, bit-le f (2 ^ i))))) ]
+
+-- without the facts of m: the fact is left where m lacks it, and no other
+pub bit-left : (i m : ℕ) → bit i m ≡ 0 → bit i (without (2 ^ i) m) ≡ 1
+bit-left i m z = omega (arith, bit-without i (2 ^ i) m, bit-same i)
+
+pub only-left : (f i m : ℕ) → bit f (without (2 ^ i) m) ≡ 1 → (f ≡ i) × (bit f m ≡ 0)
+only-left f i m e =
+    let w = sym (bit-without f (2 ^ i) m) ∙ e in (
+      bit-only f i (omega (arith, w, bit-le f (2 ^ i))),
+      omega (arith, w),
+    )
 
 -- ---- x & (x - 1) is 0: x has one fact at most
 

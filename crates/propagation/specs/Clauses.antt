@@ -2,7 +2,7 @@
 -- clauses of the state before it. Only the code's inner promises speak of this.
 -- Assumes nothing.
 use mathlib.Core.Path.{_≡_}
-use Prim.Native.Nat.{ℕ, _+_, _*_, _^_, _<_, _≤_}
+use Prim.Native.Nat.{ℕ, _+_, _-_, _*_, _^_, _<_, _≤_}
 use mathlib.Core.Bool.{Bool, true, false, not, _||_}
 use mathlib.Core.List.{List}
 use lib.ListN.{length}
@@ -11,7 +11,7 @@ use lib.Bits.{bitAnd, bitOr}
 use Rattle.task.specs.declared.Action.{Action}
 use Rattle.task.specs.declared.Ends.{Ends}
 use Rattle.task.specs.Facts.{without}
-use Rattle.task.specs.Inner.{has, noAction}
+use Rattle.task.specs.Inner.{noAction}
 use Rattle.meaning.specs.declared.Clause.{Clause}
 use Rattle.words.specs.Words.{wordsAt}
 use Rattle.certificate.specs.declared.BasicEntry.{BasicEntry}
@@ -27,14 +27,11 @@ use Rattle.propagation.specs.declared.Words.the-variants.{Absent, At}
 
 -- ---- the clauses of a set
 
--- the unit clause that says of fact i what the mask m does; and the one that says that a fact of m is on
-unfoldable pub sameAs : ℕ → ℕ → Clause
-sameAs m i = elim (has m i) [ true ↦ record { positive = 2 ^ i; negative = 0 } | false ↦ record { positive = 0; negative = 2 ^ i } ]
+-- the clause that says that fact i is on where the mask `on` has it, and off where `off` has it; where neither does every state meets it
+unfoldable pub factClause : ℕ → ℕ → ℕ → Clause
+factClause on off i = record { positive = without (2 ^ i) off; negative = without (2 ^ i) on }
 
-unfoldable pub onIn : ℕ → ℕ → Clause
-onIn m i = elim (has m i) [ true ↦ record { positive = 2 ^ i; negative = 0 } | false ↦ record { positive = 2 ^ i; negative = 2 ^ i } ]
-
--- the empty set has the empty clause, the initial state and the goal one for each of 64 facts; others stand in the file. Listed
+-- the empty set has the empty clause, the initial states and the goal one for each of 64 facts; others stand in the file. Listed
 -- states are no clauses
 unfoldable pub clauseCount : BasicEntry → ℕ
 clauseCount Empty = 1
@@ -53,11 +50,11 @@ wordsOf (Explicit x) = Absent
 wordsOf (Horn x) = At x
 wordsOf (TwoCnf x) = At x
 
--- those that do not; of a set whose clauses do, nothing is said
+-- those that do not: of the initial states what is known is told. Of a set whose clauses do, nothing is said
 unfoldable pub ownClause : Ends → BasicEntry → ℕ → Clause
 ownClause ends Empty i = record { positive = 0; negative = 0 }
-ownClause ends Init i = sameAs (ends .init) i
-ownClause ends Goal i = onIn (ends .goal) i
+ownClause ends Init i = factClause (without (ends .init) (ends .unknown)) (2 ^ 64 - 1 - bitOr (ends .init) (ends .unknown)) i
+ownClause ends Goal i = factClause (ends .goal) 0 i
 ownClause ends (Explicit x) i = record { positive = 0; negative = 0 }
 ownClause ends (Horn x) i = record { positive = 0; negative = 0 }
 ownClause ends (TwoCnf x) i = record { positive = 0; negative = 0 }

@@ -15,7 +15,7 @@ ghost use mathlib.Core.Bool.{true, false};
 ghost use Prim.Native.Nat.{_+_, _-_, _*_, _<_, _≤_, _^_};
 ghost use lib.ListN.{length};
 ghost use Rattle.task.specs.Facts.{without};
-ghost use Rattle.propagation.specs.Clauses.{sameAs, onIn, clauseCount, wordsOf, ownClause, clauseOf, acting, effectOf};
+ghost use Rattle.propagation.specs.Clauses.{factClause, clauseCount, wordsOf, ownClause, clauseOf, acting, effectOf};
 ghost use Rattle.propagation.specs.Clauses.{metBy, pulledBy, Only, Below, ofWords, ofOwn, OfLeaf, LeftOf, Clausal, Usable};
 ghost use Rattle.propagation.specs.Propagation.{Alike, Tells, Based, Passed, Solved};
 
@@ -43,39 +43,15 @@ pub fn fact(i: u32) -> u64
     1u64 << i
 }
 
-// The clause that says of a fact what a mask does.
-fn same_as(m: u64, i: u32) -> Clause
+// The clause that says that a fact is on where a mask has it, and off where another has it; where neither does every state meets it.
+fn fact_clause(on: u64, off: u64, i: u32) -> Clause
     requires { ⌜ i < 64 ⌝ }
-    ensures { λ r. ⌜ r ≡ sameAs m i ⌝ }
+    ensures { λ r. ⌜ r ≡ factClause on off i ⌝ }
 {
     let bit = fact(i);
-    if (m >> i) % 2 == 1 {
-        return Clause {
-            positive: bit,
-            negative: 0,
-        };
-    }
     Clause {
-        positive: 0,
-        negative: bit,
-    }
-}
-
-// The clause that says that a fact is on, where a mask has it.
-fn on_in(m: u64, i: u32) -> Clause
-    requires { ⌜ i < 64 ⌝ }
-    ensures { λ r. ⌜ r ≡ onIn m i ⌝ }
-{
-    let bit = fact(i);
-    if (m >> i) % 2 == 1 {
-        return Clause {
-            positive: bit,
-            negative: 0,
-        };
-    }
-    Clause {
-        positive: bit,
-        negative: bit,
+        positive: without(bit, off),
+        negative: without(bit, on),
     }
 }
 
@@ -130,8 +106,12 @@ fn own_clause(ends: Ends, set: BasicEntry, i: u32) -> Clause
 {
     match set {
         BasicEntry::Empty => no_literal(),
-        BasicEntry::Init => same_as(ends.init, i),
-        BasicEntry::Goal => on_in(ends.goal, i),
+        BasicEntry::Init => fact_clause(
+            without(ends.init, ends.unknown),
+            !(ends.init | ends.unknown),
+            i,
+        ),
+        BasicEntry::Goal => fact_clause(ends.goal, 0, i),
         BasicEntry::Explicit(_) => no_literal(),
         BasicEntry::Horn(_) => no_literal(),
         BasicEntry::TwoCnf(_) => no_literal(),

@@ -5,14 +5,20 @@ use Rattle.propagation.specs.Clauses.{clauseCount, ownClause}
 use Rattle.propagation.proofs.own_clause.Statement.{statement}
 use Rattle.propagation.proofs.own_clause.Tie as tie
 
--- the initial state and the goal have a clause for each of 64 facts
-same-as-requires : tie.Need-same-as-requires
+-- the initial states and the goal have a clause for each of 64 facts
+fact-clause-requires : tie.Need-fact-clause-requires
 unfolding clauseCount
-same-as-requires c κs = rw (c .enum-told2 .given .1) at (c .before .before .pre)
+fact-clause-requires c κs = let s = c .before .before in rw (s .enum-told2 .given .1) at (s .before .before .pre)
 
-on-in-requires : tie.Need-on-in-requires
+fact-clause-requires-2 : tie.Need-fact-clause-requires-2
 unfolding clauseCount
-on-in-requires c κs = rw (c .enum-told3 .given .1) at (c .before .before .pre)
+fact-clause-requires-2 c κs = rw (c .enum-told3 .given .1) at (c .before .before .pre)
+
+returns-2 : tie.Need-returns-2
+unfolding ownClause
+returns-2 c =
+    let s = c .before .before in
+    rw (s .before .enum-told2 .given .1) (rw (s .without .ensures) at (c .fact-clause .ensures))
 
 pub own-clause-spec : {M : Type 1} → statement M
 unfolding ownClause
@@ -22,9 +28,10 @@ own-clause-spec =
     (λ c. search needs)
     (λ c κs. search needs)
     (λ c. search needs)
-    same-as-requires
+    (λ c κs. search needs)
+    fact-clause-requires
     (λ c. search needs)
-    on-in-requires
+    fact-clause-requires-2
     (λ c. search needs)
     (λ c κs. search needs)
     (λ c. search needs)
@@ -32,8 +39,8 @@ own-clause-spec =
     (λ c. search needs)
     (λ c κs. search needs)
     (λ c. rw (c .before .enum-told .given .1) (c .no-literal .ensures))
-    (λ c. rw (c .before .enum-told2 .given .1) (c .same-as .ensures))
-    (λ c. rw (c .before .enum-told3 .given .1) (c .on-in .ensures))
+    returns-2
+    (λ c. rw (c .before .enum-told3 .given .1) (c .fact-clause2 .ensures))
     (λ c. rw (c .before .enum-told4 .given .1) (c .no-literal2 .ensures))
     (λ c. rw (c .before .enum-told5 .given .1) (c .no-literal3 .ensures))
     (λ c. rw (c .before .enum-told6 .given .1) (c .no-literal4 .ensures)))
