@@ -1,6 +1,6 @@
 -- Horn and two-literal clauses: what they have in common, and for each that a calm settled assignment leaves a state that meets them.
 -- Assumes nothing.
-use Prim.Native.Nat.{ℕ, suc, _+_, _-_, _≤_, _<_, _^_}
+use Prim.Native.Nat.{ℕ, suc, _+_, _≤_, _<_, _^_}
 use mathlib.Core.Path.{_≡_, refl, sym, subst, _∙_}
 use mathlib.Core.Bool.{Bool, true, false, true≢false}
 use mathlib.Core.List.{List}
@@ -9,20 +9,20 @@ use native.Mathlib.Omega.{arith}
 use native.Mathlib.Decide.{decLt}
 use lib.Dec.{T, leb→le}
 use Rattle.task.specs.declared.Action.{Action}
-use Rattle.task.specs.Facts.{without}
+use Rattle.task.specs.Facts.{without, onesIn}
 use Rattle.task.proofs.Tests.{excluded}
-use Rattle.task.proofs.Bits.{bit-without}
+use Rattle.task.proofs.Bits.{bit-none, bit-without}
 use Rattle.meaning.specs.declared.Clause.{Clause}
-use Rattle.meaning.specs.Layout.{onesIn, hornRule, twoCnfRule}
-use Rattle.task.specs.Inner.{bit, has}
+use Rattle.meaning.specs.Layout.{hornRule, twoCnfRule}
+use Rattle.task.specs.Inner.{bit}
 use Rattle.task.specs.declared.Ends.{Ends}
 use Rattle.bytes.specs.ClauseRule.{clauseRule}
 use Rattle.certificate.specs.declared.BasicEntry.{BasicEntry}
 use Rattle.certificate.specs.declared.BasicEntry.the-variants.{Empty, Init, Goal, Explicit, Horn, TwoCnf}
 use Rattle.leaves.specs.declared.Leaf.{Leaf}
-use Rattle.propagation.specs.Clauses.{sameAs, onIn, clauseCount, wordsOf, ownClause, clauseOf, acting, OfLeaf, ClausalSet, Clausal}
+use Rattle.propagation.specs.Clauses.{factClause, clauseCount, wordsOf, ownClause, clauseOf, acting, OfLeaf, ClausalSet, Clausal}
 use Rattle.propagation.specs.Propagation.{OneHead}
-use Rattle.propagation.proofs.OneFact.{off-in, bit-only, bit-other, ones-less}
+use Rattle.propagation.proofs.OneFact.{bit-only, bit-other, only-left, ones-less}
 use Rattle.propagation.proofs.ClauseLaws.{Has, anything, rest, rest-has, metIn, pulled, pulled-met, pulled-rest}
 
 -- ---- the shapes, in terms of literals
@@ -140,42 +140,21 @@ shaped-rule false = horn-rule
 
 -- ---- the clauses of a leaf: those that do not stand in the file have either shape
 
-none-of : (i f : ℕ) → bit f 0 ≡ 1 → f ≡ i
-none-of i f e = absurd (omega (arith, off-in {m = 0} refl f))
-
 empty-of : (b : Bool) (f : ℕ) → Has (record { positive = 0; negative = 0 }) b f → f ≡ 0
-empty-of true f e = none-of 0 f e
-empty-of false f e = none-of 0 f e
+empty-of true f e = absurd (omega (arith, bit-none f))
+empty-of false f e = absurd (omega (arith, bit-none f))
 
-same-as-of : (m i : ℕ) (b : Bool) (f : ℕ) → Has (sameAs m i) b f → f ≡ i
-unfolding sameAs
-same-as-of m i b f e = by (has m i) b e
-  where
-    by : (t b : Bool)
-        → Has (elim t [ true ↦ record { positive = 2 ^ i; negative = 0 } | false ↦ record { positive = 0; negative = 2 ^ i } ]) b f → f ≡ i
-    by true true e = bit-only f i e
-    by true false e = none-of i f e
-    by false true e = none-of i f e
-    by false false e = bit-only f i e
-
-on-in-of : (m i : ℕ) (b : Bool) (f : ℕ) → Has (onIn m i) b f → f ≡ i
-unfolding onIn
-on-in-of m i b f e = by (has m i) b e
-  where
-    by : (t b : Bool)
-        → Has (elim t [ true ↦ record { positive = 2 ^ i; negative = 0 } | false ↦ record { positive = 2 ^ i; negative = 2 ^ i } ]) b f
-        → f ≡ i
-    by true true e = bit-only f i e
-    by true false e = none-of i f e
-    by false true e = bit-only f i e
-    by false false e = bit-only f i e
+fact-of : (on off i : ℕ) (b : Bool) (f : ℕ) → Has (factClause on off i) b f → f ≡ i
+unfolding factClause
+fact-of on off i true f e = only-left f i off e .0
+fact-of on off i false f e = only-left f i on e .0
 
 module _ (bytes : List ℕ) (ends : Ends) (two : Bool) where
   shaped-at : (x : BasicEntry) → ClausalSet bytes two x → (i : ℕ) → i < clauseCount x → Shaped two (clauseOf bytes ends x i)
   unfolding clauseCount clauseOf wordsOf ownClause
   shaped-at Empty h i l = shaped-one two (record { positive = 0; negative = 0 }) 0 empty-of
-  shaped-at Init h i l = shaped-one two (sameAs (ends .init) i) i (same-as-of (ends .init) i)
-  shaped-at Goal h i l = shaped-one two (onIn (ends .goal) i) i (on-in-of (ends .goal) i)
+  shaped-at Init h i l = shaped-one two _ i (fact-of _ _ i)
+  shaped-at Goal h i l = shaped-one two _ i (fact-of _ _ i)
   shaped-at (Explicit x) h i l = absurd h
   shaped-at (Horn x) h i l = shaped-rule two _ (h .shape i l)
   shaped-at (TwoCnf x) h i l = shaped-rule two _ (h .shape i l)

@@ -3,17 +3,19 @@
 -- Assumes nothing.
 use mathlib.Core.Path.{_≡_, refl, sym, subst, _∙_}
 use mathlib.Core.Logic.{_↔_, inl, inr}
-use Prim.Native.Nat.{ℕ, zero, suc, _^_, _≤_, _<_}
+use Prim.Native.Nat.{ℕ, _+_, _-_, _^_, _≤_, _<_}
 use native.Mathlib.Omega.{arith}
 use native.Mathlib.Decide.{decLt}
 use mathlib.Core.Bool.{Bool, true, false, not}
 use mathlib.Core.List.{List}
-use lib.Dec.{T, eqb}
+use lib.Bits.{bitOr, or-lt}
+use lib.Dec.{T}
 use Rattle.task.specs.declared.Action.{Action}
 use Rattle.task.specs.declared.Ends.{Ends}
-use Rattle.task.specs.Inner.{bit, has}
+use Rattle.task.specs.Facts.{without}
+use Rattle.task.specs.Inner.{bit}
 use Rattle.task.proofs.Tests.{excluded, never, not-of}
-use Rattle.task.proofs.Bits.{bit-le, bit-none, bit-high}
+use Rattle.task.proofs.Bits.{bit-le, bit-none, bit-high, bit-not, bit-or, bit-without}
 use Rattle.task.proofs.Names.{at-init-facts, at-init-of, at-goal-facts, at-goal-of}
 use Rattle.meaning.specs.declared.Clause.{Clause}
 use Rattle.meaning.specs.Sets.{meets, someBelow}
@@ -24,11 +26,11 @@ use Rattle.certificate.specs.declared.BasicEntry.the-variants.{Empty, Init, Goa
 use Rattle.leaves.specs.declared.Leaf.{Leaf}
 use Rattle.leaves.specs.Holds.{meetsAll, setHolds}
 use Rattle.leaves.specs.Lists.{leafHolds}
-use Rattle.propagation.specs.Clauses.{sameAs, onIn, clauseCount, wordsOf, ownClause, clauseOf, acting, effectOf, pulledBy}
+use Rattle.propagation.specs.Clauses.{factClause, clauseCount, wordsOf, ownClause, clauseOf, acting, effectOf, pulledBy}
 use Rattle.propagation.specs.Clauses.{OfLeaf, UnlistedSet, Unlisted}
 use Rattle.propagation.specs.Propagation.{value, Meets, Fails}
-use Rattle.propagation.proofs.OneFact.{bit-same, bit-only}
-use Rattle.propagation.proofs.ClauseLaws.{Has, by-met, met-by, always, over-seen}
+use Rattle.propagation.proofs.OneFact.{bit-left, only-left}
+use Rattle.propagation.proofs.ClauseLaws.{Has, by-met, met-by, over-seen}
 
 -- ---- clauses of one fact
 
@@ -41,79 +43,65 @@ met-cases P s c t p n = let w = met-by s c t in go (w .0) (w .1) (w .2) (w .3)
     go true f h v = p f h v
     go false f h v = n f h v
 
--- the clause with no fact, the positive unit clause and the negative one
-abbrev none : Clause
-none = record { positive = 0; negative = 0 }
+none-met : (s : ℕ) → T (meets s (record { positive = 0; negative = 0 })) → ⊥
+none-met s t = met-cases ⊥ s _ t (λ f u v. omega (arith, bit-none f)) (λ f u v. omega (arith, bit-none f))
 
-abbrev on : ℕ → Clause
-on i = record { positive = 2 ^ i; negative = 0 }
+-- the state s has fact f on where `on` has it, and off where `off` has it
+abbrev AsTold : ℕ → ℕ → ℕ → ℕ → Type 0
+AsTold on off s f = (bit f on ≤ bit f s) × (bit f off + bit f s ≤ 1)
 
-abbrev off : ℕ → Clause
-off i = record { positive = 0; negative = 2 ^ i }
-
-none-met : (s : ℕ) → T (meets s none) → ⊥
-none-met s t = met-cases ⊥ s none t (λ f u v. omega (arith, bit-none f)) (λ f u v. omega (arith, bit-none f))
-
-on-met : (s i : ℕ) → T (meets s (on i)) ↔ (bit i s ≡ 1)
-on-met s i = (
-  (λ t. met-cases (bit i s ≡ 1) s (on i) t (λ f u v. subst (λ (g : ℕ). bit g s ≡ 1) (bit-only f i u) v)
-      (λ f u v. absurd (omega (arith, bit-none f)))),
-  (λ v. by-met s (on i) true i (bit-same i) v),
+fact-met : (on off s i : ℕ) → T (meets s (factClause on off i)) ↔ AsTold on off s i
+unfolding factClause
+fact-met on off s i = (
+  (λ t. met-cases (AsTold on off s i) s (factClause on off i) t
+      (λ f u v. let w = only-left f i off u in subst (AsTold on off s) (w .0) (omega (arith, bit-le f on), omega (arith, w .1)))
+      (λ f u v. let w = only-left f i on u in subst (AsTold on off s) (w .0) (omega (arith, w .1), omega (arith, bit-le f off)))),
+  (λ h. elim (decLt (bit i s) 1) [
+    | yes l ↦ by-met s (factClause on off i) false i (bit-left i on (omega (arith, h .0))) (omega arith)
+    | no l ↦ by-met s (factClause on off i) true i (bit-left i off (omega (arith, h .1))) (omega (arith, bit-le i s))
+  ]),
 )
-
-off-met : (s i : ℕ) → T (meets s (off i)) ↔ (bit i s ≡ 0)
-off-met s i = (
-  (λ t. met-cases (bit i s ≡ 0) s (off i) t (λ f u v. absurd (omega (arith, bit-none f)))
-      (λ f u v. subst (λ (g : ℕ). bit g s ≡ 0) (bit-only f i u) v)),
-  (λ v. by-met s (off i) false i (bit-same i) v),
-)
-
--- by whether fact i is on in m
-by-fact : (m i : ℕ) (P : Bool → Type 0) → (bit i m ≡ 1 → P true) → (bit i m ≡ 0 → P false) → P (has m i)
-unfolding has
-by-fact m i P y n = go (bit i m) refl
-  where
-    go : (x : ℕ) → bit i m ≡ x → P (eqb x 1)
-    go zero e = n e
-    go (suc zero) e = y e
-    go (suc (suc x)) e = absurd (omega (arith, bit-le i m))
-
-same-met : (s m i : ℕ) → T (meets s (sameAs m i)) ↔ (bit i s ≡ bit i m)
-unfolding sameAs
-same-met s m i =
-    by-fact m i (λ b. T (meets s (elim b [ true ↦ on i | false ↦ off i ])) ↔ (bit i s ≡ bit i m))
-    (λ e. ((λ t. on-met s i .0 t ∙ sym e), (λ v. on-met s i .1 (v ∙ e))))
-    (λ e. ((λ t. off-met s i .0 t ∙ sym e), (λ v. off-met s i .1 (v ∙ e))))
-
-on-in-met : (s m i : ℕ) → T (meets s (onIn m i)) ↔ (bit i m ≤ bit i s)
-unfolding onIn
-on-in-met s m i =
-    by-fact m i (λ b. T (meets s (elim b [ true ↦ on i | false ↦ both ])) ↔ (bit i m ≤ bit i s))
-    (λ e. ((λ t. omega (arith, on-met s i .0 t)), (λ v. on-met s i .1 (omega (arith, bit-le i s)))))
-    (λ e. ((λ t. omega arith), (λ v. always s both i (bit-same i) (bit-same i))))
-  where
-    both : Clause
-    both = record { positive = 2 ^ i; negative = 2 ^ i }
 
 -- ---- the clauses of a set
 
-module _ (bytes : List ℕ) (ends : Ends) (start : ends .init < 2 ^ 64) (forbidden : ends .goal < 2 ^ 64) where
+-- the masks of the task's ends are words
+abbrev pub InWords : Ends → Type 0
+InWords ends = (ends .init < 2 ^ 64) × (ends .unknown < 2 ^ 64) × (ends .goal < 2 ^ 64)
+
+module _ (bytes : List ℕ) (ends : Ends) (words : InWords ends) where
+  -- the clause of a fact in the initial states: it is as in the start, unless it is unknown
+  init-met : (s i : ℕ) → i < 64 → T (meets s (ownClause ends Init i)) ↔ (bit i (ends .unknown) ≡ 0 → bit i s ≡ bit i (ends .init))
+  unfolding ownClause
+  init-met s i l =
+      let either = bitOr (ends .init) (ends .unknown) in
+      let m = fact-met (without (ends .init) (ends .unknown)) (2 ^ 64 - 1 - either) s i in
+      let on = bit-without i (ends .init) (ends .unknown) in
+      let off = bit-not 64 i either (or-lt 64 _ _ (words .0) (words .1)) l in
+      let or = bit-or i (ends .init) (ends .unknown) in
+      let le = bit-le i s in (
+        (λ t z. let h = m .0 t in omega (arith, bit-le i (ends .init))),
+        (λ h. m .1 (elim (decLt (bit i (ends .unknown)) 1) [
+          | yes k ↦ let e : bit i s ≡ bit i (ends .init) = h (omega arith) in (omega arith, omega arith)
+          | no k ↦ (omega arith, omega arith)
+        ])),
+      )
+
   set-meets : (x : BasicEntry) → UnlistedSet x → (s : ℕ) → s < 2 ^ 64
       → T (setHolds bytes ends x s) ↔ ((i : ℕ) → i < clauseCount x → T (meets s (clauseOf bytes ends x i)))
   unfolding setHolds meetsAll clauseCount clauseOf wordsOf ownClause
   set-meets Empty u s low = ((λ e. absurd e), (λ e. none-met s (e 0 (omega arith))))
   set-meets Init u s low = (
-    (λ e i l. same-met s (ends .init) i .1 (at-init-facts ends s e i)),
-    (λ e. at-init-of ends s (λ i. elim (decLt i 64) [
-      | yes l ↦ same-met s (ends .init) i .0 (e i l)
-      | no l ↦ bit-high 64 i s low (omega arith) ∙ sym (bit-high 64 i (ends .init) start (omega arith))
+    (λ e i l. init-met s i l .1 (at-init-facts ends s e i)),
+    (λ e. at-init-of ends s (λ i z. elim (decLt i 64) [
+      | yes l ↦ init-met s i l .0 (e i l) z
+      | no l ↦ bit-high 64 i s low (omega arith) ∙ sym (bit-high 64 i (ends .init) (words .0) (omega arith))
     ])),
   )
   set-meets Goal u s low = (
-    (λ e i l. on-in-met s (ends .goal) i .1 (at-goal-facts ends s e i)),
+    (λ e i l. fact-met (ends .goal) 0 s i .1 (at-goal-facts ends s e i, omega (arith, bit-none i, bit-le i s))),
     (λ e. at-goal-of ends s (λ i. elim (decLt i 64) [
-      | yes l ↦ on-in-met s (ends .goal) i .0 (e i l)
-      | no l ↦ omega (arith, bit-high 64 i (ends .goal) forbidden (omega arith))
+      | yes l ↦ fact-met (ends .goal) 0 s i .0 (e i l) .0
+      | no l ↦ omega (arith, bit-high 64 i (ends .goal) (words .2) (omega arith))
     ])),
   )
   set-meets (Explicit x) u s low = absurd u
@@ -133,8 +121,8 @@ one-fails k t h =
       ]))
     ]
 
-module _ (bytes : List ℕ) (ends : Ends) (start : ends .init < 2 ^ 64) (forbidden : ends .goal < 2 ^ 64)
-    (a : Action) (x : Leaf) (u : Unlisted x) (s : ℕ) (low : seen (x .after) a s < 2 ^ 64) where
+module _ (bytes : List ℕ) (ends : Ends) (words : InWords ends) (a : Action) (x : Leaf) (u : Unlisted x)
+    (s : ℕ) (low : seen (x .after) a s < 2 ^ 64) where
   -- clause i, over the state before the action
   abbrev clause : ℕ → Clause
   clause i = pulledBy (effectOf (acting a (x .after))) (clauseOf bytes ends (x .set) i)
@@ -142,7 +130,7 @@ module _ (bytes : List ℕ) (ends : Ends) (start : ends .init < 2 ^ 64) (forbidd
   by-clauses : T (leafHolds bytes ends a s x) ↔ ((i : ℕ) → i < clauseCount (x .set) → T (meets s (clause i)))
   unfolding leafHolds
   by-clauses =
-      let m = set-meets bytes ends start forbidden (x .set) u (seen (x .after) a s) low in (
+      let m = set-meets bytes ends words (x .set) u (seen (x .after) a s) low in (
         (λ t i q. subst T (sym (over-seen a (x .after) s _)) (m .0 t i q)),
         (λ t. m .1 (λ i q. subst T (over-seen a (x .after) s _) (t i q))),
       )

@@ -35,7 +35,7 @@ use Rattle.clauses.proofs.ClauseShapes.{Shaped}
 use Rattle.clauses.proofs.AssumeLaws.{against, agrees-before}
 use Rattle.clauses.proofs.SeekLaws.{tells-no, usable-shaped, candidate-fills, sought-not}
 use Rattle.clauses.proofs.FillLaws.{horn-fillable, two-fillable}
-use Rattle.clauses.proofs.SetLaws.{leaf-meets, leaf-fails}
+use Rattle.clauses.proofs.SetLaws.{InWords, leaf-meets, leaf-fails}
 
 -- ---- the facts from n on
 
@@ -135,9 +135,9 @@ clausal-unlisted bytes two (Explicit x) h = absurd h
 clausal-unlisted bytes two (Horn x) h = tt
 clausal-unlisted bytes two (TwoCnf x) h = tt
 
-module _ (bytes left right : List ℕ) (k : Setting) (start : k .ends .init < 2 ^ 64) (forbidden : k .ends .goal < 2 ^ 64)
-    (hn : k .ends .facts ≤ 64) (add : k .action .add < 2 ^ k .ends .facts)
-    (usable : Usable bytes left (k .m) (k .two)) (pair : 2 ≤ length right) (unlisted : Each Unlisted (leavesIn right 2))
+module _ (bytes left right : List ℕ) (k : Setting) (words : InWords (k .ends)) (hn : k .ends .facts ≤ 64)
+    (add : k .action .add < 2 ^ k .ends .facts) (usable : Usable bytes left (k .m) (k .two))
+    (pair : 2 ≤ length right) (unlisted : Each Unlisted (leavesIn right 2))
     (x y : Assignment) (o : Opposed (startClause (k .ends .facts) (k .action)) nothing x)
     (u : Solved (k .two) (LeftOf bytes left k) x y) where
   -- the leaf holds the state that it is asked about
@@ -169,10 +169,10 @@ module _ (bytes left right : List ℕ) (k : Setting) (start : k .ends .init < 2 
         low = r .0;
         allowed = r .1;
         holds = each-of (Holding s) left (k .m) (usable .0) (λ j l.
-            leaf-meets bytes (k .ends) start forbidden (k .action) _ (left-unlisted j l) s (seen-low (leafIn left j .after) s (r .0)) .1
+            leaf-meets bytes (k .ends) words (k .action) _ (left-unlisted j l) s (seen-low (leafIn left j .after) s (r .0)) .1
             (λ c p. w .meets-left c (j, l, p)));
         fails = each-of (Failing s) right 2 pair (λ j l.
-            leaf-fails bytes (k .ends) start forbidden (k .action) _ (each-at Unlisted right 2 pair unlisted j l) s
+            leaf-fails bytes (k .ends) words (k .action) _ (each-at Unlisted right 2 pair unlisted j l) s
             (seen-low (leafIn right j .after) s (r .0)) .1
             (w .fails j (omega arith) l));
       }
@@ -182,14 +182,14 @@ module _ (bytes left right : List ℕ) (k : Setting) (start : k .ends .init < 2 
   of-countered r =
       let s = r .state in
       let m : Meets (LeftOf bytes left k) s = (λ c (j, l, p).
-      leaf-meets bytes (k .ends) start forbidden (k .action) _ (left-unlisted j l) s (seen-low (leafIn left j .after) s (r .low)) .0
+      leaf-meets bytes (k .ends) words (k .action) _ (left-unlisted j l) s (seen-low (leafIn left j .after) s (r .low)) .0
       (each-at (Holding s) left (k .m) (usable .0) (r .holds) j l) c p) in
       record {
         state = s;
         agrees = starts-agrees (k .two) _ (k .ends .facts) hn (k .action) x y o u s (r .low) (r .allowed) m;
         meets-left = m;
         fails = λ j _ l.
-            leaf-fails bytes (k .ends) start forbidden (k .action) _ (each-at Unlisted right 2 pair unlisted j l) s
+            leaf-fails bytes (k .ends) words (k .action) _ (each-at Unlisted right 2 pair unlisted j l) s
             (seen-low (leafIn right j .after) s (r .low)) .0
             (each-at (Failing s) right 2 pair (r .fails) j l);
       }

@@ -1,12 +1,12 @@
 -- `clauses::refuted` meets its contract.
 -- Assumes nothing.
 use mathlib.Core.Bool.{true≢false}
-use Prim.Native.Nat.{_<_, _^_}
 use borrow.Author.Needs.{needs}
 use Rattle.task.proofs.Tests.{holds}
 use Rattle.task.proofs.MaskLaws.{beyond-all}
 use Rattle.propagation.specs.declared.Setting.{Setting}
 use Rattle.propagation.specs.Propagation.{Opposed}
+use Rattle.clauses.proofs.SetLaws.{InWords}
 use Rattle.clauses.proofs.StartLaws.{startClause, nothing, start-ready, tells-worth, tells-none}
 use Rattle.clauses.proofs.refuted.Statement.{statement}
 use Rattle.clauses.proofs.refuted.Tie as tie
@@ -19,11 +19,8 @@ starts c =
     let s = c .before .before .before .before .before in
     rw (beyond-all (s .args .ends .facts) (s .pre .0 .0) (c .before .all-facts .ensures)) at (c .opposite .ensures)
 
--- the task's ends are words
-words : (c : tie.After-opposite)
-    → let a = c .before .before .before .before .before .args in
-    (a .ends .init < 2 ^ 64) × (a .ends .goal < 2 ^ 64)
-words c = (search needs, search needs)
+words : (c : tie.After-opposite) → InWords (c .before .before .before .before .before .args .ends)
+words c = (search needs, search needs, search needs)
 
 solve-requires : tie.Need-solve-requires
 solve-requires c κs =
@@ -52,8 +49,7 @@ returns c =
     let s = solved .before .before .before .before .before .before in
     let a = s .args in
     let k : Setting = record { ends = a .ends; m = a .m; two = a .two; action = a .a } in
-    let w = words (solved .before) in
-    tells-worth (a .file .now) (a .left .now) (a .right .now) k (w .0) (w .1) (s .pre .0 .0) (s .pre .0 .1)
+    tells-worth (a .file .now) (a .left .now) (a .right .now) k (words (solved .before)) (s .pre .0 .0) (s .pre .0 .1)
     (s .pre .1 .0, s .pre .1 .2) (s .pre .1 .1) (s .pre .1 .3) _ _ (starts (solved .before)) (solved .solve .ensures)
     (found .seek .ensures) (holds (c .before .if1 .taken)) (c .worth .ensures)
 
@@ -64,8 +60,7 @@ returns-2 c =
     let s = solved .before .before .before .before .before .before in
     let a = s .args in
     let k : Setting = record { ends = a .ends; m = a .m; two = a .two; action = a .a } in
-    let w = words (solved .before) in
-    tells-none (a .file .now) (a .left .now) (a .right .now) k (w .0) (w .1) (s .pre .0 .0) (s .pre .0 .1)
+    tells-none (a .file .now) (a .left .now) (a .right .now) k (words (solved .before)) (s .pre .0 .0) (s .pre .0 .1)
     (s .pre .1 .0, s .pre .1 .2) (s .pre .1 .1) (s .pre .1 .3) _ _ (starts (solved .before)) (solved .solve .ensures)
     (found .seek .ensures) (c .if1 .left)
 
