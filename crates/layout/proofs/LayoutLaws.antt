@@ -22,9 +22,9 @@ use Rattle.meaning.specs.declared.Limits.{Limits}
 use Rattle.meaning.specs.File.{File}
 use Rattle.certificate.specs.Views.{outlineTo, outlineOf}
 use Rattle.bytes.specs.Numbers.{numberAt}
-use Rattle.meaning.specs.Layout.{count, readTask, readWithin}
+use Rattle.meaning.specs.Layout.{count, goalAt, actionCountAt, afterActions, readTask, readWithin}
 use Rattle.bodies.specs.Faults.{fault}
-use Rattle.layout.specs.Sections.{isWhole, rest, sectionAt, stepCountAt, stepsAt, restAt}
+use Rattle.layout.specs.Sections.{isWhole, unknownAt, rest, sectionAt, stepCountAt, stepsAt, restAt}
 use Rattle.meaning.proofs.Results.{bind-case, found-same, and-out}
 use Rattle.bytes.proofs.ByteLaws.{number-in}
 use Rattle.bodies.proofs.Faults.{found-of, refused-of, goes-on, stops, passed, failed}
@@ -33,21 +33,21 @@ use Rattle.layout.proofs.OutlineLaws.{TaskIs, task-is, Agree, refusals,
 
 -- ---- a reading that agrees with the code's
 
-module _ (l : Limits) (bytes : List ℕ) (t : Task) where
-  both-refused : (r : Result File) (s : Result (ℕ × ℕ)) {n p : ℕ} → Agree (Placed l bytes t) r s → Ended n p ≡ rest s
+module _ (l : Limits) (bytes : List ℕ) (t : Task) (same : number 1 bytes 4 ≡ numberAt 1 bytes 4) where
+  both-refused : (r : Result File) (s : Result (ℕ × ℕ)) {n p : ℕ} → Agree (Placed l bytes t same) r s → Ended n p ≡ rest s
       → Refused n p ≡ outlineTo bytes r
   unfolding outlineTo
   both-refused (refuse m q) (refuse _ _) refusals e = cc
   both-refused (found f) (found x) (values h) e = let z : _≡_ {A = ℕ} 0 1 = cc in absurd (omega arith)
 
-  both-found : (r : Result File) (s : Result (ℕ × ℕ)) {a b : ℕ} → Agree (Placed l bytes t) r s → Both a b ≡ rest s
-      → Lawful (placed l bytes t a b) ≡ outlineTo bytes r
+  both-found : (r : Result File) (s : Result (ℕ × ℕ)) {a b : ℕ} → Agree (Placed l bytes t same) r s → Both a b ≡ rest s
+      → Lawful (placed l bytes t same a b) ≡ outlineTo bytes r
   unfolding outlineTo
   both-found (refuse m q) (refuse _ _) refusals e = let z : _≡_ {A = ℕ} 0 1 = cc in absurd (omega arith)
   both-found (found f) (found x) {a} {b} (values h) e =
       let i : a ≡ x .0 = cc in
       let j : b ≡ x .1 = cc in
-      ap Lawful (ap₂ (λ (y z : ℕ). placed l bytes t y z) i j ∙ sym h)
+      ap Lawful (ap₂ (λ (y z : ℕ). placed l bytes t same y z) i j ∙ sym h)
 
 rest-found : (s : Result (ℕ × ℕ)) {x : Rest} {a b : ℕ} → x ≡ Both a b → x ≡ rest s → s ≡ found (a, b)
 rest-found (refuse m q) g e = let z : _≡_ {A = ℕ} 0 1 = cc in absurd (omega arith)
@@ -57,13 +57,13 @@ rest-found (found x) {a = a} {b} g e =
     ap₂ (λ (y z : ℕ). found (y, z)) i j
 
 -- the counts of the state sets and of the steps lie in the file
-pub rest-ends : (l : Limits) (bytes : List ℕ) (n m : ℕ) {x : Rest} {a b : ℕ} → x ≡ Both a b → x ≡ rest (restAt bytes l n m)
+pub rest-ends : (l : Limits) (bytes : List ℕ) (n m p : ℕ) {x : Rest} {a b : ℕ} → x ≡ Both a b → x ≡ rest (restAt bytes l n m p)
     → (a + 2 ≤ length bytes) × (b + 2 ≤ length bytes)
 unfolding restAt sectionAt stepsAt
-rest-ends l bytes n m {a = a} {b} x e =
-    bind-case (sectionAt bytes (record { states = false; facts = n; others = m; most = l .states }) 256 (24 + 24 * m)) _ (a, b)
-    (rest-found (restAt bytes l n m) x e) λ es _ e₁.
-    bind-case (sectionAt bytes (record { states = true; facts = n; others = numberAt 2 bytes (24 + 24 * m); most = l .states }) 512 (es .1))
+rest-ends l bytes n m p {a = a} {b} x e =
+    bind-case (sectionAt bytes (record { states = false; facts = n; others = m; most = l .states }) 256 p) _ (a, b)
+    (rest-found (restAt bytes l n m p) x e) λ es _ e₁.
+    bind-case (sectionAt bytes (record { states = true; facts = n; others = numberAt 2 bytes p; most = l .states }) 512 (es .1))
     _ (a, b) e₁ λ ss ss! e₂.
     bind-case (stepsAt bytes (l .steps) (ss .1)) _ (a, b) e₂ λ ks ks! q.
     bind-case (count bytes 0 512 (es .1)) _ ss ss! λ sc sc! _.
@@ -128,62 +128,70 @@ module _ (l : Limits) (bytes : List ℕ) {w : Bool} (ew : w ≡ isWhole bytes) w
         task-bad {r = r} {p} y e =
             sym (ap (outlineTo bytes) (lengths-pass _ ∙ stops _ (refused-of (readTask bytes) r p (sym y ∙ e))))
 
-        module _ {v : Fault} (fine : v ≡ None) (h : v ≡ fault (readTask bytes)) {n m : ℕ} (en : n ≡ numberAt 1 bytes 5)
-            (em : m ≡ numberAt 2 bytes 22) where
-          the-task : (t : Task) × (readTask bytes ≡ found (t, start l bytes t)) × TaskIs bytes t
-          the-task =
-              let f = found-of (readTask bytes) (sym fine ∙ h) in
-              let i = task-is bytes (f .0) (f .1) in
-              (f .0 .0, f .1 ∙ ap (λ (p : ℕ). found (f .0 .0, p)) (i .1), i .0)
+        module _ {f : Fault} (fine : f ≡ None) (h : f ≡ fault (readTask bytes)) {v n m p : ℕ} (ev : v ≡ numberAt 1 bytes 4)
+            (en : n ≡ numberAt 1 bytes 5) (em : m ≡ numberAt 2 bytes (actionCountAt v)) (ep : p ≡ afterActions v m) where
+          the-task : (r : Task × ℕ) × (readTask bytes ≡ found r)
+          the-task = found-of (readTask bytes) (sym fine ∙ h)
 
           abbrev t : Task
-          t = the-task .0
+          t = the-task .0 .0
 
-          outline-tail : outlineTo bytes (tail l bytes t) ≡ outlineOf l bytes
+          is : TaskIs bytes t (the-task .0 .1)
+          is = task-is bytes (the-task .0) (the-task .1)
+
+          abbrev same : number 1 bytes 4 ≡ numberAt 1 bytes 4
+          same = is .version
+
+          outline-tail : outlineTo bytes (tail l bytes t same) ≡ outlineOf l bytes
           unfolding outlineOf outlineTo readWithin later tail
-          outline-tail = sym (ap (outlineTo bytes) (lengths-pass _ ∙ goes-on _ (the-task .1)))
+          outline-tail =
+              sym (ap (outlineTo bytes) (lengths-pass _ ∙ goes-on _ (the-task .1 ∙ ap (λ (q : ℕ). found (t, q)) (is .ends))))
 
           facts-same : n ≡ t .facts
-          facts-same = en ∙ sym (the-task .2 .facts)
+          facts-same = en ∙ sym (is .facts)
 
           actions-same : m ≡ length (t .actions)
-          actions-same = em ∙ sym (the-task .2 .actions)
+          actions-same = em ∙ ap (λ (x : ℕ). numberAt 2 bytes (actionCountAt x)) ev ∙ sym (is .actions)
 
-          rest-same : rest (restAt bytes l n m) ≡ rest (restAt bytes l (t .facts) (length (t .actions)))
-          rest-same = ap₂ (λ (x y : ℕ). rest (restAt bytes l x y)) facts-same actions-same
+          place-same : p ≡ start l bytes t same
+          place-same = ep ∙ ap₂ afterActions ev actions-same
 
-          pub rest-bad : {x : Rest} {r p : ℕ} → x ≡ Ended r p → x ≡ rest (restAt bytes l n m) → Refused r p ≡ outlineOf l bytes
-          rest-bad y e = both-refused l bytes t (tail l bytes t) _ (tail-agrees l bytes t) (sym y ∙ e ∙ rest-same) ∙ outline-tail
+          rest-same : rest (restAt bytes l n m p) ≡ rest (restAt bytes l (t .facts) (length (t .actions)) (start l bytes t same))
+          rest-same = λ i. rest (restAt bytes l (facts-same i) (actions-same i) (place-same i))
 
-          module _ {i o a b ac sc kc : ℕ} (ei : i ≡ numberAt 8 bytes 6) (eo : o ≡ numberAt 8 bytes 14)
-              (ea : ac ≡ numberAt 2 bytes (24 + 24 * m))
+          pub rest-bad : {x : Rest} {r q : ℕ} → x ≡ Ended r q → x ≡ rest (restAt bytes l n m p) → Refused r q ≡ outlineOf l bytes
+          rest-bad y e =
+              both-refused l bytes t same (tail l bytes t same) _ (tail-agrees l bytes t same) (sym y ∙ e ∙ rest-same) ∙ outline-tail
+
+          module _ {i k o a b ac sc kc : ℕ} (ei : i ≡ numberAt 8 bytes 6) (ej : k ≡ unknownAt bytes v)
+              (eo : o ≡ numberAt 8 bytes (goalAt v)) (ea : ac ≡ numberAt 2 bytes p)
               (es : sc ≡ numberAt 2 bytes a) (ek : kc ≡ numberAt 2 bytes b) where
-            pub lawful : {x : Rest} → x ≡ Both a b → x ≡ rest (restAt bytes l n m)
+            pub lawful : {x : Rest} → x ≡ Both a b → x ≡ rest (restAt bytes l n m p)
                 → Lawful (record {
-                  ends = record { facts = n; init = i; goal = o };
+                  ends = record { facts = n; init = i; unknown = k; goal = o };
                   actions = m;
                   «action_sets» = ac;
                   «state_sets» = sc;
                   steps = kc;
-                  «action_sets_at» = 24 + 24 * m + 2;
+                  «action_sets_at» = p + 2;
                   «state_sets_at» = a + 2;
                   «steps_at» = b + 2;
                 }) ≡ outlineOf l bytes
             unfolding endsOf
             lawful y e =
-                let pi : i ≡ t .init = ei ∙ sym (the-task .2 .init) in
-                let po : o ≡ t .goal = eo ∙ sym (the-task .2 .goal) in
-                let pa : ac ≡ numberAt 2 bytes (24 + 24 * length (t .actions)) = ea
-                ∙ ap (λ (x : ℕ). numberAt 2 bytes (24 + 24 * x)) actions-same in
+                let pi : i ≡ t .init = ei ∙ sym (is .init) in
+                let pu : k ≡ t .unknown = ej ∙ ap (unknownAt bytes) ev ∙ sym (is .unknown) in
+                let po : o ≡ t .goal = eo ∙ ap (λ (x : ℕ). numberAt 8 bytes (goalAt x)) ev ∙ sym (is .goal) in
+                let pa : ac ≡ numberAt 2 bytes (start l bytes t same) = ea ∙ ap (numberAt 2 bytes) place-same in
                 ap Lawful (λ j. record {
-                  ends = record { facts = facts-same j; init = pi j; goal = po j };
+                  ends = record { facts = facts-same j; init = pi j; unknown = pu j; goal = po j };
                   actions = actions-same j;
                   «action_sets» = pa j;
                   «state_sets» = es j;
                   steps = ek j;
-                  «action_sets_at» = 24 + 24 * actions-same j + 2;
+                  «action_sets_at» = place-same j + 2;
                   «state_sets_at» = a + 2;
                   «steps_at» = b + 2;
                 })
-                ∙ both-found l bytes t (tail l bytes t) _ (tail-agrees l bytes t) (sym y ∙ e ∙ rest-same)
+                ∙ both-found l bytes t same (tail l bytes t same) _ (tail-agrees l bytes t same) (sym y ∙ e ∙ rest-same)
                 ∙ outline-tail

@@ -16,15 +16,17 @@ use Rattle.meaning.specs.declared.Limits.{Limits}
 use Rattle.meaning.specs.File.{File, ActionSet, StateSet, Step}
 use Rattle.certificate.specs.Views.{afterEntry, entryPlace, placesOf}
 use Rattle.bytes.specs.Numbers.{numberAt}
-use Rattle.meaning.specs.Layout.{items, field, count, mask, action, step, Kind, actionKinds, stateKinds, entry, entries, readTask}
+use Rattle.meaning.specs.Layout.{items, field, count, mask, action, step, Kind, actionKinds, stateKinds, entry, entries}
+use Rattle.meaning.specs.Layout.{goalAt, actionCountAt, actionSize, afterActions, readTask}
 use Rattle.meaning.specs.Writing.{FitsAction}
 use Rattle.bodies.specs.Faults.{fault}
-use Rattle.layout.specs.Sections.{sectionAt, stepCountAt, stepsAt, restAt}
+use Rattle.layout.specs.Sections.{unknownAt, sectionAt, stepCountAt, stepsAt, restAt}
 use Rattle.meaning.proofs.Reading.{task-walked}
 use Rattle.meaning.proofs.Results.{bind-case, need-case, found-same}
 use Rattle.meaning.proofs.Given.{action-gives, items-give, action-sets-give, state-sets-give}
 use Rattle.bytes.proofs.ByteLaws.{number-in}
 use Rattle.layout.proofs.SectionChecks.{field-is, count-is, entry-fine}
+use Rattle.layout.proofs.TaskLaws.{mask-is, unknown-is}
 
 -- ---- where the entries end
 
@@ -50,33 +52,31 @@ entries-place bytes kinds (suc k) i p r e =
 
 -- ---- the task's numbers
 
-pub record TaskIs (bytes : List ℕ) (t : Task) : Type 0 where
+pub record TaskIs (bytes : List ℕ) (t : Task) (end : ℕ) : Type 0 where
+  pub version : number 1 bytes 4 ≡ numberAt 1 bytes 4
   pub facts : t .facts ≡ numberAt 1 bytes 5
   pub init : t .init ≡ numberAt 8 bytes 6
-  pub goal : t .goal ≡ numberAt 8 bytes 14
-  pub actions : length (t .actions) ≡ numberAt 2 bytes 22
+  pub unknown : t .unknown ≡ unknownAt bytes (numberAt 1 bytes 4)
+  pub goal : t .goal ≡ numberAt 8 bytes (goalAt (numberAt 1 bytes 4))
+  pub actions : length (t .actions) ≡ numberAt 2 bytes (actionCountAt (numberAt 1 bytes 4))
+  pub ends : end ≡ afterActions (numberAt 1 bytes 4) (length (t .actions))
 
-mask-is : (bytes : List ℕ) (n p x : ℕ) → mask bytes n p ≡ found x → x ≡ numberAt 8 bytes p
-unfolding mask
-mask-is bytes n p x e =
-    bind-case (field bytes 8 p) _ x e λ y y! e₁.
-    need-case (ltb y (2 ^ n)) 5 p _ x e₁ λ _ q.
-    sym (found-same q) ∙ field-is bytes 8 p y y! .0
-
-pub task-is : (bytes : List ℕ) (r : Task × ℕ) → readTask bytes ≡ found r → TaskIs bytes (r .0) × (r .1 ≡ 24 + 24 * length (r .0 .actions))
+pub task-is : (bytes : List ℕ) (r : Task × ℕ) → readTask bytes ≡ found r → TaskIs bytes (r .0) (r .1)
 task-is bytes r e =
     let w = task-walked bytes r e in
-    let h : length (w .acts) ≡ w .m = items-give (FitsAction (w .n)) (action bytes (w .n)) 24 (action-gives bytes (w .n)) (w .m) 0 24
-    (w .acts) (w .acts!) .0 in
-    subst (λ (x : Task × ℕ). TaskIs bytes (x .0) × (x .1 ≡ 24 + 24 * length (x .0 .actions))) (w .whole) (
-      record {
-        facts = field-is bytes 1 5 (w .n) (w .n!) .0;
-        init = mask-is bytes (w .n) 6 (w .s) (w .s!);
-        goal = mask-is bytes (w .n) 14 (w .g) (w .g!);
-        actions = h ∙ count-is bytes 0 256 22 (w .m) (w .m!) .0;
-      },
-      omega arith,
-    )
+    let o = field-is bytes 1 4 (w .v) (w .v!) in
+    let h : length (w .acts) ≡ w .m = items-give (FitsAction (w .n)) (action bytes (w .n)) (actionSize (w .v)) (action-gives bytes (w .n))
+    (w .m) 0 _ (w .acts) (w .acts!) .0 in
+    subst (λ (x : Task × ℕ). TaskIs bytes (x .0) (x .1)) (w .whole)
+    (record {
+      version = sym (number-in 1 bytes 4 (o .1));
+      facts = field-is bytes 1 5 (w .n) (w .n!) .0;
+      init = mask-is bytes (w .n) 6 (w .s) (w .s!) .0;
+      unknown = rw (← o .0) (unknown-is bytes (w .v) (w .n) (w .s) (w .u) (w .s!) (w .u!) .0);
+      goal = rw (← o .0) (mask-is bytes (w .n) (goalAt (w .v)) (w .g) (w .g!) .0);
+      actions = rw (← o .0) (h ∙ count-is bytes 0 256 (actionCountAt (w .v)) (w .m) (w .m!) .0);
+      ends = rw (← o .0, h) refl;
+    })
 
 -- ---- two readings that refuse alike, and find what goes together
 
@@ -103,10 +103,10 @@ agree-found x h a = a
 
 -- ---- the certificate
 
-module _ (l : Limits) (bytes : List ℕ) (t : Task) where
+module _ (l : Limits) (bytes : List ℕ) (t : Task) (same : number 1 bytes 4 ≡ numberAt 1 bytes 4) where
   -- the place after the actions
   abbrev pub start : ℕ
-  start = 24 + 24 * length (t .actions)
+  start = afterActions (numberAt 1 bytes 4) (length (t .actions))
 
   -- what is read after the action sets, and what is read from the place after the actions on
   unfoldable pub later : ℕ → List ActionSet × ℕ → Result File
@@ -117,7 +117,7 @@ module _ (l : Limits) (bytes : List ℕ) (t : Task) where
     _ ← need (leb kc (l .steps)) 19 (ss .1)
     ks ← items (step bytes) 12 (ss .1 + 2) kc
     _ ← need (leb (length bytes) (ss .1 + 2 + 12 * kc)) 3 (ss .1 + 2 + 12 * kc)
-    found (record { task = t; actionSets = es .0; stateSets = ss .0; steps = ks })
+    found (record { version = number 1 bytes 4; task = t; actionSets = es .0; stateSets = ss .0; steps = ks })
 
   unfoldable pub tail : Result File
   tail = do
@@ -144,17 +144,19 @@ module _ (l : Limits) (bytes : List ℕ) (t : Task) where
       (ss! : entries bytes (stateKinds bytes (l .states) (t .facts) ac) 0 (es .1 + 2) sc ≡ found ss)
       (kc! : count bytes 1 2048 (ss .1) ≡ found kc)
       (ks! : items (step bytes) 12 (ss .1 + 2) kc ≡ found ks) where
-    places-are : placesOf bytes (record { task = t; actionSets = es .0; stateSets = ss .0; steps = ks }) ≡ placed (es .1) (ss .1)
+    places-are : placesOf bytes (record { version = number 1 bytes 4; task = t; actionSets = es .0; stateSets = ss .0; steps = ks })
+        ≡ placed (es .1) (ss .1)
     unfolding placesOf
     places-are =
         let la : length (es .0) ≡ ac = action-sets-give bytes (length (t .actions)) ac (start + 2) es es! .0 in
         let ls : length (ss .0) ≡ sc = state-sets-give bytes (l .states) (t .facts) ac sc (es .1 + 2) ss ss! .0 in
         let lk : length ks ≡ kc = items-give (λ _. Unit {0}) (step bytes) 12 (λ p x e. tt) kc 0 (ss .1 + 2) ks ks! .0 in
-        let a : 26 + 24 * length (t .actions) ≡ start + 2 = omega arith in
-        let b : entryPlace bytes (26 + 24 * length (t .actions)) (length (es .0)) + 2 ≡ es .1 + 2 =
+        let p : ℕ = afterActions (number 1 bytes 4) (length (t .actions)) + 2 in
+        let a : p ≡ start + 2 = ap (λ (v : ℕ). afterActions v (length (t .actions)) + 2) same in
+        let b : entryPlace bytes p (length (es .0)) + 2 ≡ es .1 + 2 =
         ap₂ (λ (p k : ℕ). entryPlace bytes p k + 2) a la
         ∙ ap (λ (p : ℕ). p + 2) (sym (entries-place bytes (actionKinds bytes (length (t .actions))) ac 0 (start + 2) es es!)) in
-        let c : entryPlace bytes (entryPlace bytes (26 + 24 * length (t .actions)) (length (es .0)) + 2) (length (ss .0)) + 2 ≡ ss .1 + 2 =
+        let c : entryPlace bytes (entryPlace bytes p (length (es .0)) + 2) (length (ss .0)) + 2 ≡ ss .1 + 2 =
         ap₂ (λ (p k : ℕ). entryPlace bytes p k + 2) b ls
         ∙ ap (λ (p : ℕ). p + 2) (sym (entries-place bytes (stateKinds bytes (l .states) (t .facts) ac) sc 0 (es .1 + 2) ss ss!)) in
         let na : length (es .0) ≡ numberAt 2 bytes start = la ∙ count-is bytes 0 256 start ac ac! .0 in
@@ -175,7 +177,7 @@ module _ (l : Limits) (bytes : List ℕ) (t : Task) where
   Placed f x = placesOf bytes f ≡ placed (x .0) (x .1)
 
   -- the file that is read has its parts where the code finds them, and what is refused is refused alike
-  pub tail-agrees : Agree Placed tail (restAt bytes l (t .facts) (length (t .actions)))
+  pub tail-agrees : Agree Placed tail (restAt bytes l (t .facts) (length (t .actions)) start)
   unfolding later tail restAt sectionAt stepCountAt stepsAt
   tail-agrees =
       agree-group tail (count bytes 0 256 start) _ _

@@ -27,46 +27,46 @@ walked-not : {A : Type 0} (r : Result (A × ℕ)) {v : Walked} {n p : ℕ} → v
 walked-not (refuse m q) g e = cc
 walked-not (found x) g e = let z : _≡_ {A = ℕ} 0 1 = cc in absurd (omega arith)
 
-module _ (bytes : List ℕ) (l : Limits) (n m : ℕ) where
+module _ (bytes : List ℕ) (l : Limits) (n m p : ℕ) where
   -- the action sets
   abbrev First : Section
   First = record { states = false; facts = n; others = m; most = l .states }
 
-  pub first-bad : {v : Walked} {r q : ℕ} → v ≡ Stopped r q → v ≡ walked (sectionAt bytes First 256 (24 + 24 * m))
-      → Ended r q ≡ rest (restAt bytes l n m)
+  pub first-bad : {v : Walked} {r q : ℕ} → v ≡ Stopped r q → v ≡ walked (sectionAt bytes First 256 p)
+      → Ended r q ≡ rest (restAt bytes l n m p)
   unfolding restAt
-  first-bad g e = sym (ap rest (stops _ (walked-not (sectionAt bytes First 256 (24 + 24 * m)) g e)))
+  first-bad g e = sym (ap rest (stops _ (walked-not (sectionAt bytes First 256 p) g e)))
 
   -- the state sets
   abbrev Second : ℕ → Section
   Second o = record { states = true; facts = n; others = o; most = l .states }
 
-  module _ {v : Walked} {a o : ℕ} (g : v ≡ After a) (e : v ≡ walked (sectionAt bytes First 256 (24 + 24 * m)))
-      (w : o ≡ numberAt 2 bytes (24 + 24 * m)) where
-    same-second : sectionAt bytes (Second (numberAt 2 bytes (24 + 24 * m))) 512 a ≡ sectionAt bytes (Second o) 512 a
+  module _ {v : Walked} {a o : ℕ} (g : v ≡ After a) (e : v ≡ walked (sectionAt bytes First 256 p))
+      (w : o ≡ numberAt 2 bytes p) where
+    same-second : sectionAt bytes (Second (numberAt 2 bytes p)) 512 a ≡ sectionAt bytes (Second o) 512 a
     same-second = ap (λ (k : ℕ). sectionAt bytes (Second k) 512 a) (sym w)
 
     pub second-bad : {u : Walked} {r q : ℕ} → u ≡ Stopped r q → u ≡ walked (sectionAt bytes (Second o) 512 a)
-        → Ended r q ≡ rest (restAt bytes l n m)
+        → Ended r q ≡ rest (restAt bytes l n m p)
     unfolding restAt
     second-bad y f =
         sym (ap rest
-        (goes-on _ (walked-to (sectionAt bytes First 256 (24 + 24 * m)) g e .1)
+        (goes-on _ (walked-to (sectionAt bytes First 256 p) g e .1)
         ∙ stops _ (same-second ∙ walked-not (sectionAt bytes (Second o) 512 a) y f)))
 
     module _ {u : Walked} {s : ℕ} (y : u ≡ After s) (f : u ≡ walked (sectionAt bytes (Second o) 512 a)) where
-      pub third-bad : {x : Fault} {r q : ℕ} → x ≡ At r q → x ≡ fault (stepsAt bytes (l .steps) s) → Ended r q ≡ rest (restAt bytes l n m)
+      pub third-bad : {x : Fault} {r q : ℕ} → x ≡ At r q → x ≡ fault (stepsAt bytes (l .steps) s) → Ended r q ≡ rest (restAt bytes l n m p)
       unfolding restAt
       third-bad {r = r} {q} z h =
           sym (ap rest
-          (goes-on _ (walked-to (sectionAt bytes First 256 (24 + 24 * m)) g e .1)
+          (goes-on _ (walked-to (sectionAt bytes First 256 p) g e .1)
           ∙ goes-on _ (same-second ∙ walked-to (sectionAt bytes (Second o) 512 a) y f .1)
           ∙ stops _ (refused-of (stepsAt bytes (l .steps) s) r q (sym z ∙ h))))
 
-      pub all-good : {x : Fault} → x ≡ None → x ≡ fault (stepsAt bytes (l .steps) s) → Both a s ≡ rest (restAt bytes l n m)
+      pub all-good : {x : Fault} → x ≡ None → x ≡ fault (stepsAt bytes (l .steps) s) → Both a s ≡ rest (restAt bytes l n m p)
       unfolding restAt
       all-good z h =
           sym (ap rest
-          (goes-on _ (walked-to (sectionAt bytes First 256 (24 + 24 * m)) g e .1)
+          (goes-on _ (walked-to (sectionAt bytes First 256 p) g e .1)
           ∙ goes-on _ (same-second ∙ walked-to (sectionAt bytes (Second o) 512 a) y f .1)
           ∙ goes-on _ (found-of (stepsAt bytes (l .steps) s) (sym z ∙ h) .1)))

@@ -1,12 +1,13 @@
 -- The fields up to and with the actions, test by test. The masks of the start, the goal and the actions are read as runs of masks.
 -- Assumes nothing.
-use mathlib.Core.Path.{_≡_, refl, sym, ap, _∙_}
-use Prim.Native.Nat.{ℕ, zero, suc, _+_, _*_, _≤_}
+use mathlib.Core.Path.{_≡_, refl, sym, ap, ap₂, _∙_}
+use Prim.Native.Nat.{ℕ, zero, suc, _+_, _*_, _^_, _≤_}
 use native.Mathlib.Omega.{arith}
-use mathlib.Core.Bool.{Bool, true, false, not, _&&_}
+use mathlib.Core.Bool.{Bool, true, false, not, _&&_, _||_}
 use mathlib.Core.List.{List, [], _∷_}
 use lib.ListN.{length}
-use lib.Dec.{leb, eqb}
+use lib.Bits.{bitAnd}
+use lib.Dec.{leb, ltb, eqb}
 use borrow.Author.Tests.{eq-eqb, ne-eqb, not-true, not-false}
 use Rattle.task.specs.Task.{Task}
 use Rattle.task.specs.declared.Action.{Action}
@@ -15,10 +16,13 @@ use Rattle.bodies.specs.declared.Fault.the-variants.{None, At}
 use Rattle.meaning.specs.Result.{Result, refuse, found, _>>=_, need}
 use Rattle.meaning.specs.Bytes.{inside}
 use Rattle.bytes.specs.Numbers.{numberAt}
-use Rattle.meaning.specs.Layout.{items, field, count, mask, action, readTask}
+use Rattle.meaning.specs.Layout.{items, field, count, mask, action, goalAt, actionCountAt, actionSize, afterActions}
+use Rattle.meaning.specs.Layout.{unknownMask, readTask}
 use Rattle.bodies.specs.Faults.{fault}
-use Rattle.layout.specs.Sections.{factsAt}
-use Rattle.meaning.proofs.Results.{bind-case, need-case, found-same}
+use Rattle.layout.specs.Sections.{factsAt, startAt, unknownAt}
+use Rattle.meaning.proofs.Results.{bind-case, bind-same, bind-assoc, need-case, found-same}
+use Rattle.meaning.proofs.Places.{goal-first, goal-later}
+use Rattle.meaning.proofs.Unknown.{Unknown, none, some, unknown-out}
 use Rattle.bytes.proofs.ByteLaws.{inside-out}
 use Rattle.bodies.proofs.Faults.{forget, told, found-of, refused-of, goes-on, stops, passed, failed, forget-after}
 use Rattle.bodies.proofs.FieldLaws.{field-in}
@@ -26,29 +30,25 @@ use Rattle.layout.proofs.SectionChecks.{field-is, count-found}
 
 -- ---- runs of masks
 
-pairs : {B : Type 0} (a b : Result ℕ) (g : ℕ → ℕ → Result B) {r q : ℕ}
+-- a mask by itself is one of a run
+one-mask : (read : ℕ → Result ℕ) (p : ℕ) → forget (items read 8 p 1) ≡ forget (read p)
+unfolding items _>>=_
+one-mask read p = forget-after (read p) (λ x. x ∷ [])
+
+-- two masks, the second at a place of its own
+two-bad : {B : Type 0} (a b : Result ℕ) (g : ℕ → ℕ → Result B) {r q : ℕ}
     → At r q ≡ fault (a >>= λ x. (b >>= λ y. found (y ∷ [])) >>= λ ys. found (x ∷ ys)) → (a >>= λ x. b >>= λ y. g x y) ≡ refuse r q
 unfolding _>>=_
-pairs (refuse m p) b g e = cc
-pairs (found x) (refuse m p) g e = cc
-pairs (found x) (found y) g e = let z : _≡_ {A = ℕ} 0 1 = cc in absurd (omega arith)
+two-bad (refuse m p) b g e = cc
+two-bad (found x) (refuse m p) g e = cc
+two-bad (found x) (found y) g e = let z : _≡_ {A = ℕ} 0 1 = cc in absurd (omega arith)
 
-both : (a b : Result ℕ) → None ≡ fault (a >>= λ x. (b >>= λ y. found (y ∷ [])) >>= λ ys. found (x ∷ ys))
+two-good : (a b : Result ℕ) → None ≡ fault (a >>= λ x. (b >>= λ y. found (y ∷ [])) >>= λ ys. found (x ∷ ys))
     → (x : ℕ) × (y : ℕ) × (a ≡ found x) × (b ≡ found y)
 unfolding _>>=_
-both (refuse m p) b e = let z : _≡_ {A = ℕ} 0 1 = cc in absurd (omega arith)
-both (found x) (refuse m p) e = let z : _≡_ {A = ℕ} 0 1 = cc in absurd (omega arith)
-both (found x) (found y) e = (x, y, refl, refl)
-
--- the start and the goal are two masks
-two-bad : {B : Type 0} (read : ℕ → Result ℕ) (g : ℕ → ℕ → Result B) {r q : ℕ} → At r q ≡ fault (items read 8 6 2)
-    → (read 6 >>= λ x. read 14 >>= λ y. g x y) ≡ refuse r q
-unfolding items _>>=_
-two-bad read g e = pairs (read 6) (read 14) g e
-
-two-good : (read : ℕ → Result ℕ) → None ≡ fault (items read 8 6 2) → (x : ℕ) × (y : ℕ) × (read 6 ≡ found x) × (read 14 ≡ found y)
-unfolding items _>>=_
-two-good read e = both (read 6) (read 14) e
+two-good (refuse m p) b e = let z : _≡_ {A = ℕ} 0 1 = cc in absurd (omega arith)
+two-good (found x) (refuse m p) e = let z : _≡_ {A = ℕ} 0 1 = cc in absurd (omega arith)
+two-good (found x) (found y) e = (x, y, refl, refl)
 
 -- an action is three masks, and what follows it
 three : {B : Type 0} (a b c : Result ℕ) (ts : Result (List ℕ)) (us : Result B) (f : ℕ → ℕ → ℕ → Action) (g : Action → B → List Action)
@@ -91,14 +91,14 @@ module _ (bytes : List ℕ) {t : Bool} (q : t ≡ inside 1 bytes 4) where
     version-read : field bytes 1 4 ≡ found v
     version-read = field-in bytes 4 1 (inside-out 1 bytes 4 (sym q ∙ not-false t s)) ev
 
-    pub version-other : (v ≡ 1 → ⊥) → At 2 4 ≡ fault (factsAt bytes)
+    pub version-other : not (eqb v 1 || eqb v 2) ≡ true → At 2 4 ≡ fault (factsAt bytes)
     unfolding factsAt
-    version-other g = refused (goes-on _ version-read ∙ failed 2 4 _ (ne-eqb v 1 g))
+    version-other g = refused (goes-on _ version-read ∙ failed 2 4 _ (not-true (eqb v 1 || eqb v 2) g))
 
-    module _ (g : v ≡ 1) {u : Bool} (q′ : u ≡ inside 1 bytes 5) where
+    module _ (g : not (eqb v 1 || eqb v 2) ≡ false) {u : Bool} (q′ : u ≡ inside 1 bytes 5) where
       pub facts-cut : not u ≡ true → At 3 5 ≡ fault (factsAt bytes)
       unfolding factsAt field
-      facts-cut s′ = refused (goes-on _ version-read ∙ passed 2 4 _ (eq-eqb v 1 g) ∙ stops _ (failed 3 5 _ (sym q′ ∙ not-true u s′)))
+      facts-cut s′ = refused (goes-on _ version-read ∙ passed 2 4 _ (not-false (eqb v 1 || eqb v 2) g) ∙ stops _ (failed 3 5 _ (sym q′ ∙ not-true u s′)))
 
       module _ (s′ : not u ≡ false) {n : ℕ} (en : n ≡ numberAt 1 bytes 5) where
         facts-read : field bytes 1 5 ≡ found n
@@ -107,16 +107,14 @@ module _ (bytes : List ℕ) {t : Bool} (q : t ≡ inside 1 bytes 4) where
         pub facts-bad : not (leb 1 n && leb n 64) ≡ true → At 4 5 ≡ fault (factsAt bytes)
         unfolding factsAt
         facts-bad x =
-            refused (goes-on _ version-read ∙ passed 2 4 _ (eq-eqb v 1 g) ∙ goes-on _ facts-read
+            refused (goes-on _ version-read ∙ passed 2 4 _ (not-false (eqb v 1 || eqb v 2) g) ∙ goes-on _ facts-read
             ∙ failed 4 5 _ (not-true (leb 1 n && leb n 64) x))
 
         pub facts-good : not (leb 1 n && leb n 64) ≡ false → None ≡ fault (factsAt bytes)
         unfolding factsAt
         facts-good x =
-            sym (ap fault (goes-on _ version-read ∙ passed 2 4 _ (eq-eqb v 1 g) ∙ goes-on _ facts-read
+            sym (ap fault (goes-on _ version-read ∙ passed 2 4 _ (not-false (eqb v 1 || eqb v 2) g) ∙ goes-on _ facts-read
             ∙ passed 4 5 _ (not-false (leb 1 n && leb n 64) x)))
-
--- ---- the task, from the number of facts on
 
 -- readings one within the other, and one after the other
 in-turn : {A B D : Type 0} (r : Result A) (f : A → Result B) (g : B → Result D) (h : A → Result D) → ((x : A) → (f x >>= g) ≡ h x)
@@ -125,17 +123,102 @@ unfolding _>>=_
 in-turn (refuse n p) f g h e = refl
 in-turn (found x) f g h e = e x
 
+-- ---- the start and the unknown facts
+
+-- a mask that is read is the number that stands there, within the file
+pub mask-is : (bytes : List ℕ) (n p x : ℕ) → mask bytes n p ≡ found x → (x ≡ numberAt 8 bytes p) × (p + 8 ≤ length bytes)
+unfolding mask
+mask-is bytes n p x e =
+    bind-case (field bytes 8 p) _ x e λ y y! e₁.
+    need-case (ltb y (2 ^ n)) 5 p _ x e₁ λ _ q.
+    let h = field-is bytes 8 p y y! in
+    (sym (found-same q) ∙ h .0, h .1)
+
+pub unknown-none : (bytes : List ℕ) (v : ℕ) → eqb v 1 ≡ true → 0 ≡ unknownAt bytes v
+unfolding unknownAt
+unknown-none bytes v e = rw (unknownAt, e) refl
+
+pub unknown-some : (bytes : List ℕ) (v : ℕ) → eqb v 1 ≡ false → numberAt 8 bytes 14 ≡ unknownAt bytes v
+unfolding unknownAt
+unknown-some bytes v e = rw (unknownAt, e) refl
+
+-- what is read of the unknown facts is the number that stands for them, and ends where the goal's mask stands
+pub unknown-is : (bytes : List ℕ) (v n s u : ℕ) → mask bytes n 6 ≡ found s → Unknown bytes v n s u
+    → (u ≡ unknownAt bytes v) × (goalAt v ≤ length bytes)
+unknown-is bytes v n s u s! (none e z) =
+    (z ∙ unknown-none bytes v e, (let h = mask-is bytes n 6 s s! .1 in omega (arith, goal-first v e)))
+unknown-is bytes v n s u s! (some e u! a) =
+    let h = mask-is bytes n 14 u u! in
+    (h .0 ∙ unknown-some bytes v e, (let l = h .1 in omega (arith, goal-later v e)))
+
+start-inside : (bytes : List ℕ) (v n : ℕ) (x : ℕ × ℕ) → startAt bytes v n ≡ found x → goalAt v ≤ length bytes
+unfolding startAt
+start-inside bytes v n x e =
+    bind-case (mask bytes n 6) _ x e λ s s! e₁.
+    bind-case (unknownMask bytes v n s) _ x e₁ λ u u! q.
+    unknown-is bytes v n s u s! (unknown-out bytes v n s u u!) .1
+
+module _ (bytes : List ℕ) (v n : ℕ) where
+  -- without a field for them the start is all
+  pub start-one : {t : Bool} → t ≡ not (eqb v 1) → not t ≡ true → {w : Fault} → w ≡ fault (items (mask bytes n) 8 6 1)
+      → w ≡ fault (startAt bytes v n)
+  unfolding startAt unknownMask _>>=_
+  start-one {t} e h i =
+      let z : eqb v 1 ≡ true = not-false (eqb v 1) (sym e ∙ not-true t h) in
+      i ∙ told (items (mask bytes n) 8 6 1) (startAt bytes v n)
+      (one-mask (mask bytes n) 6 ∙ sym (rw (startAt, unknownMask, z) (forget-after (mask bytes n 6) (λ s. (s, 0)))))
+
+  module _ {t : Bool} (e : t ≡ not (eqb v 1)) (h : not t ≡ false) {w : Fault} (i : w ≡ fault (items (mask bytes n) 8 6 2)) where
+    later : eqb v 1 ≡ false
+    later = not-true (eqb v 1) (sym e ∙ not-false t h)
+
+    -- both masks, one after the other
+    then : startAt bytes v n
+        ≡ (mask bytes n 6 >>= λ s. mask bytes n 14 >>= λ u. need (eqb (bitAnd s u) 0) 16 14 >>= λ _. found (s, u))
+    unfolding startAt unknownMask _>>=_
+    then =
+        rw (startAt, unknownMask, later)
+        (bind-same {r = mask bytes n 6} refl λ s. in-turn (mask bytes n 14) _ _ _ λ u. in-turn (need (eqb (bitAnd s u) 0) 16 14) _ _ _ λ _. refl)
+
+    pub start-bad : {r p : ℕ} → w ≡ At r p → At r p ≡ fault (startAt bytes v n)
+    unfolding items _>>=_
+    start-bad g = sym (ap fault (then ∙ two-bad (mask bytes n 6) (mask bytes n 14) _ (sym g ∙ i)))
+
+    module _ (g : w ≡ None) {s u : ℕ} (es : s ≡ numberAt 8 bytes 6) (eu : u ≡ numberAt 8 bytes 14) where
+      tested : startAt bytes v n ≡ (need (eqb (bitAnd s u) 0) 16 14 >>= λ _. found (s, u))
+      unfolding items _>>=_
+      tested =
+          let m = two-good (mask bytes n 6) (mask bytes n 14) (sym g ∙ i) in
+          let a : m .0 ≡ s = mask-is bytes n 6 (m .0) (m .2) .0 ∙ sym es in
+          let b : m .1 ≡ u = mask-is bytes n 14 (m .1) (m .3) .0 ∙ sym eu in
+          then ∙ goes-on _ (m .2) ∙ goes-on _ (m .3)
+          ∙ ap₂ (λ (x y : ℕ). need (eqb (bitAnd x y) 0) 16 14 >>= λ _. found (x, y)) a b
+
+      pub start-clash : (bitAnd s u ≡ 0 → ⊥) → At 16 14 ≡ fault (startAt bytes v n)
+      start-clash c = sym (ap fault (tested ∙ failed 16 14 _ (ne-eqb (bitAnd s u) 0 c)))
+
+      pub start-good : bitAnd s u ≡ 0 → None ≡ fault (startAt bytes v n)
+      start-good c = sym (ap fault (tested ∙ passed 16 14 _ (eq-eqb (bitAnd s u) 0 c)))
+
+-- ---- the task
+
 module _ (bytes : List ℕ) where
   -- what follows the number of facts
-  abbrev fromFacts : ℕ → Result (Task × ℕ)
-  fromFacts n = mask bytes n 6 >>= λ s. mask bytes n 14 >>= λ g. count bytes 0 256 22 >>= λ m.
-      items (action bytes n) 24 24 m >>= λ acts. found (record { facts = n; init = s; goal = g; actions = acts }, 24 + 24 * m)
+  abbrev fromStart : ℕ → ℕ → ℕ × ℕ → Result (Task × ℕ)
+  fromStart v n x =
+      mask bytes n (goalAt v) >>= λ g. count bytes 0 256 (actionCountAt v) >>= λ m.
+      items (action bytes n) (actionSize v) (actionCountAt v + 2) m >>= λ acts.
+      found (record { facts = n; init = x .0; unknown = x .1; goal = g; actions = acts }, afterActions v m)
+
+  abbrev fromFacts : ℕ × ℕ → Result (Task × ℕ)
+  fromFacts x = startAt bytes (x .0) (x .1) >>= fromStart (x .0) (x .1)
 
   opened : (factsAt bytes >>= fromFacts) ≡ readTask bytes
-  unfolding factsAt readTask _>>=_
+  unfolding factsAt startAt readTask _>>=_
   opened =
-      in-turn (field bytes 1 4) _ fromFacts _ λ v. in-turn (need (eqb v 1) 2 4) _ fromFacts _ λ _.
-      in-turn (field bytes 1 5) _ fromFacts _ λ n. in-turn (need (leb 1 n && leb n 64) 4 5) _ fromFacts _ λ _. refl
+      in-turn (field bytes 1 4) _ fromFacts _ λ v. in-turn (need (eqb v 1 || eqb v 2) 2 4) _ fromFacts _ λ _.
+      in-turn (field bytes 1 5) _ fromFacts _ λ n. in-turn (need (leb 1 n && leb n 64) 4 5) _ fromFacts _ λ _.
+      in-turn (mask bytes n 6) _ (fromStart v n) _ λ s. in-turn (unknownMask bytes v n s) _ (fromStart v n) _ λ u. refl
 
   refused-task : {r p : ℕ} → readTask bytes ≡ refuse r p → At r p ≡ fault (readTask bytes)
   refused-task e = sym (ap fault e)
@@ -143,43 +226,71 @@ module _ (bytes : List ℕ) where
   pub opening-bad : {v : Fault} {r p : ℕ} → v ≡ At r p → v ≡ fault (factsAt bytes) → At r p ≡ fault (readTask bytes)
   opening-bad {r = r} {p} z y = refused-task (sym opened ∙ stops _ (refused-of (factsAt bytes) r p (sym z ∙ y)))
 
-  -- the number of facts is within the file
-  facts-found : (n : ℕ) → factsAt bytes ≡ found n → (n ≡ numberAt 1 bytes 5) × (6 ≤ length bytes)
+  -- the version and the number of facts are within the file
+  facts-found : (x : ℕ × ℕ) → factsAt bytes ≡ found x
+      → (x .0 ≡ numberAt 1 bytes 4) × (x .1 ≡ numberAt 1 bytes 5) × (6 ≤ length bytes)
   unfolding factsAt
-  facts-found n e =
-      bind-case (field bytes 1 4) _ n e λ v _ e₁. need-case (eqb v 1) 2 4 _ n e₁ λ _ e₂.
-      bind-case (field bytes 1 5) _ n e₂ λ m m! e₃. need-case (leb 1 m && leb m 64) 4 5 _ n e₃ λ _ e₄.
-      let h = field-is bytes 1 5 m m! in (sym (found-same e₄) ∙ h .0, h .1)
+  facts-found x e =
+      bind-case (field bytes 1 4) _ x e λ v v! e₁. need-case (eqb v 1 || eqb v 2) 2 4 _ x e₁ λ _ e₂.
+      bind-case (field bytes 1 5) _ x e₂ λ n n! e₃. need-case (leb 1 n && leb n 64) 4 5 _ x e₃ λ _ e₄.
+      let k = field-is bytes 1 4 v v! in
+      let h = field-is bytes 1 5 n n! in
+      let q = sym (found-same e₄) in
+      (ap (λ (y : ℕ × ℕ). y .0) q ∙ k .0, ap (λ (y : ℕ × ℕ). y .1) q ∙ h .0, h .1)
 
-  module _ {v : Fault} (good : v ≡ None) (o : v ≡ fault (factsAt bytes)) where
-    opening-found : (n : ℕ) × (factsAt bytes ≡ found n)
+  module _ {f : Fault} (good : f ≡ None) (o : f ≡ fault (factsAt bytes)) where
+    opening-found : (x : ℕ × ℕ) × (factsAt bytes ≡ found x)
     opening-found = found-of (factsAt bytes) (sym good ∙ o)
 
     pub opening-ends : 6 ≤ length bytes
-    opening-ends = facts-found (opening-found .0) (opening-found .1) .1
+    opening-ends = facts-found (opening-found .0) (opening-found .1) .2
 
-    module _ {n : ℕ} (en : n ≡ numberAt 1 bytes 5) where
-      before-masks : readTask bytes ≡ fromFacts n
-      before-masks =
-          let f = opening-found in
-          sym opened ∙ goes-on _ (f .1) ∙ ap fromFacts (facts-found (f .0) (f .1) .0 ∙ sym en)
+    module _ {v n : ℕ} (ev : v ≡ numberAt 1 bytes 4) (en : n ≡ numberAt 1 bytes 5) where
+      before-start : readTask bytes ≡ fromFacts (v, n)
+      before-start =
+          let x = opening-found in
+          let h = facts-found (x .0) (x .1) in
+          sym opened ∙ goes-on _ (x .1) ∙ ap₂ (λ (y z : ℕ). fromFacts (y, z)) (h .0 ∙ sym ev) (h .1 ∙ sym en)
 
-      pub state-bad : {w : Fault} {r p : ℕ} → w ≡ At r p → w ≡ fault (items (mask bytes n) 8 6 2) → At r p ≡ fault (readTask bytes)
-      state-bad z y = refused-task (before-masks ∙ two-bad (mask bytes n) _ (sym z ∙ y))
+      pub state-bad : {w : Fault} {r p : ℕ} → w ≡ At r p → w ≡ fault (startAt bytes v n) → At r p ≡ fault (readTask bytes)
+      state-bad {r = r} {p} z y = refused-task (before-start ∙ stops _ (refused-of (startAt bytes v n) r p (sym z ∙ y)))
 
-      module _ {w : Fault} (fine : w ≡ None) (y : w ≡ fault (items (mask bytes n) 8 6 2)) where
-        before-count : (s : ℕ) × (g : ℕ) × (readTask bytes ≡ (count bytes 0 256 22 >>= λ m.
-            items (action bytes n) 24 24 m >>= λ acts. found (record { facts = n; init = s; goal = g; actions = acts }, 24 + 24 * m)))
-        before-count = let h = two-good (mask bytes n) (sym fine ∙ y) in (h .0, h .1, before-masks ∙ goes-on _ (h .2) ∙ goes-on _ (h .3))
+      module _ {w : Fault} (fine : w ≡ None) (y : w ≡ fault (startAt bytes v n)) where
+        the-start : (x : ℕ × ℕ) × (startAt bytes v n ≡ found x)
+        the-start = found-of (startAt bytes v n) (sym fine ∙ y)
 
-        pub actions-none : {x : Fault} {r p : ℕ} → x ≡ At r p → x ≡ fault (count bytes 0 256 22) → At r p ≡ fault (readTask bytes)
-        actions-none {r = r} {p} i z = refused-task (before-count .2 ∙ stops _ (refused-of (count bytes 0 256 22) r p (sym i ∙ z)))
+        before-goal : readTask bytes ≡ fromStart v n (the-start .0)
+        before-goal = before-start ∙ goes-on _ (the-start .1)
 
-        pub actions-say : {i : Fault} → i ≡ None → i ≡ fault (count bytes 0 256 22) → {m : ℕ} → m ≡ numberAt 2 bytes 22
-            → {j : Fault} → j ≡ fault (items (mask bytes n) 8 24 (3 * m)) → j ≡ fault (readTask bytes)
-        actions-say good z {m} em j =
-            j
-            ∙ told (items (mask bytes n) 8 24 (3 * m)) (readTask bytes)
-            (actions-masks bytes n m 24
-            ∙ sym (forget-after (items (action bytes n) 24 24 m) _)
-            ∙ ap forget (sym (before-count .2 ∙ goes-on _ (count-found bytes 0 256 22 good z em))))
+        -- it ends where the goal's mask stands
+        pub start-ends : goalAt v ≤ length bytes
+        start-ends = start-inside bytes v n (the-start .0) (the-start .1)
+
+        pub goal-bad : {x : Fault} {r p : ℕ} → x ≡ At r p → x ≡ fault (items (mask bytes n) 8 (goalAt v) 1)
+            → At r p ≡ fault (readTask bytes)
+        goal-bad {r = r} {p} z i =
+            refused-task (before-goal ∙ stops _ (refused-of (mask bytes n (goalAt v)) r p
+            (sym z ∙ i ∙ told (items (mask bytes n) 8 (goalAt v) 1) (mask bytes n (goalAt v)) (one-mask (mask bytes n) (goalAt v)))))
+
+        module _ {x : Fault} (okay : x ≡ None) (i : x ≡ fault (items (mask bytes n) 8 (goalAt v) 1)) where
+          the-goal : (g : ℕ) × (mask bytes n (goalAt v) ≡ found g)
+          the-goal =
+              found-of (mask bytes n (goalAt v))
+              (sym okay ∙ i ∙ told (items (mask bytes n) 8 (goalAt v) 1) (mask bytes n (goalAt v)) (one-mask (mask bytes n) (goalAt v)))
+
+          pub actions-none : {y : Fault} {r p : ℕ} → y ≡ At r p → y ≡ fault (count bytes 0 256 (actionCountAt v))
+              → At r p ≡ fault (readTask bytes)
+          actions-none {r = r} {p} j z =
+              refused-task (before-goal ∙ goes-on _ (the-goal .1)
+              ∙ stops _ (refused-of (count bytes 0 256 (actionCountAt v)) r p (sym j ∙ z)))
+
+          pub actions-say : {y : Fault} → y ≡ None → y ≡ fault (count bytes 0 256 (actionCountAt v))
+              → {m : ℕ} → m ≡ numberAt 2 bytes (actionCountAt v)
+              → {j : Fault} → j ≡ fault (items (mask bytes n) 8 (actionCountAt v + 2) (3 * m)) → j ≡ fault (readTask bytes)
+          unfolding actionSize
+          actions-say good z {m} em j =
+              j
+              ∙ told (items (mask bytes n) 8 (actionCountAt v + 2) (3 * m)) (readTask bytes)
+              (actions-masks bytes n m (actionCountAt v + 2)
+              ∙ sym (forget-after (items (action bytes n) 24 (actionCountAt v + 2) m) _)
+              ∙ ap forget (sym (before-goal ∙ goes-on _ (the-goal .1) ∙ goes-on _ (count-found bytes 0 256 (actionCountAt v) good z em))))

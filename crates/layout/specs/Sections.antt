@@ -1,7 +1,7 @@
 -- Sections of a file as the code reads them, and what follows the actions.
 -- Assumes nothing.
 use Prim.Native.Nat.{ℕ, _+_, _*_}
-use mathlib.Core.Bool.{Bool, true, false, _&&_}
+use mathlib.Core.Bool.{Bool, true, false, _&&_, _||_}
 use mathlib.Core.List.{List}
 use lib.ListN.{length}
 use lib.Dec.{leb, eqb}
@@ -12,7 +12,7 @@ use Rattle.meaning.specs.Result.{Result, refuse, found, _>>=_, need}
 use Rattle.bytes.specs.Numbers.{numberAt}
 use Rattle.meaning.specs.File.{Step}
 use Rattle.meaning.specs.declared.Limits.{Limits}
-use Rattle.meaning.specs.Layout.{items, field, count, step, entries}
+use Rattle.meaning.specs.Layout.{items, field, count, mask, step, entries, unknownMask}
 use Rattle.entries.specs.Forms.{setsOf}
 
 -- a reading of what follows the actions, as two places
@@ -25,13 +25,24 @@ unfoldable pub isWhole : List ℕ → Bool
 isWhole bytes = (leb 4 (length bytes) && leb (length bytes) 65536) && eqb (numberAt 4 bytes 0 + 4) (length bytes)
 
 -- how the task starts: the version, and the number of facts
-unfoldable pub factsAt : List ℕ → Result ℕ
+unfoldable pub factsAt : List ℕ → Result (ℕ × ℕ)
 factsAt bytes = do
   v ← field bytes 1 4
-  _ ← need (eqb v 1) 2 4
+  _ ← need (eqb v 1 || eqb v 2) 2 4
   n ← field bytes 1 5
   _ ← need (leb 1 n && leb n 64) 4 5
-  found n
+  found (v, n)
+
+-- the start, and the unknown facts
+unfoldable pub startAt : List ℕ → ℕ → ℕ → Result (ℕ × ℕ)
+startAt bytes v n = do
+  s ← mask bytes n 6
+  u ← unknownMask bytes v n s
+  found (s, u)
+
+-- the number that stands for the unknown facts, and 0 where the version has none
+unfoldable pub unknownAt : List ℕ → ℕ → ℕ
+unknownAt bytes v = elim (eqb v 1) [ true ↦ 0 | false ↦ numberAt 8 bytes 14 ]
 
 -- a section: its count, its entries, and the place after them
 unfoldable pub sectionAt : (bytes : List ℕ) (s : Section) → ℕ → ℕ → Result (List (setsOf bytes s .Item) × ℕ)
@@ -54,10 +65,10 @@ stepsAt bytes most p = do
   _ ← need (leb (length bytes) (p + 2 + 12 * k)) 3 (p + 2 + 12 * k)
   found ks
 
--- all of it, for n facts and m actions: the places after the action sets and after the state sets
-unfoldable pub restAt : List ℕ → Limits → ℕ → ℕ → Result (ℕ × ℕ)
-restAt bytes l n m = do
-  es ← sectionAt bytes (record { states = false; facts = n; others = m; most = l .states }) 256 (24 + 24 * m)
-  ss ← sectionAt bytes (record { states = true; facts = n; others = numberAt 2 bytes (24 + 24 * m); most = l .states }) 512 (es .1)
+-- all of it from place p on, for n facts and m actions: the places after the action sets and after the state sets
+unfoldable pub restAt : List ℕ → Limits → ℕ → ℕ → ℕ → Result (ℕ × ℕ)
+restAt bytes l n m p = do
+  es ← sectionAt bytes (record { states = false; facts = n; others = m; most = l .states }) 256 p
+  ss ← sectionAt bytes (record { states = true; facts = n; others = numberAt 2 bytes p; most = l .states }) 512 (es .1)
   _ ← stepsAt bytes (l .steps) (ss .1)
   found (es .1, ss .1)

@@ -1,11 +1,14 @@
-// How a file is read, front to back, with replies 1 to 7 at the written places and in the written order, and 19 for a check's own limits.
+// How a file is read, front to back, with replies 1 to 7 and 16 at the written places and in the written order, and 19 for a check's own
+// limits.
 use crate::rows::Row;
 use crate::rows::Walked;
 use crate::rows::told;
 use crate::rows::walk;
 use bodies::Fault;
+use bytes::byte_at;
 use bytes::u16_at;
 use bytes::u32_at;
+use bytes::u64_at;
 use certificate::Outline;
 use certificate::Places;
 use entries::Section;
@@ -13,6 +16,11 @@ use entries::inside;
 use meaning::Limits;
 use reader::task_head;
 use task::Ends;
+use versions::action_count_at;
+use versions::after_actions;
+use versions::goal_at;
+use versions::goal_span;
+use versions::has_unknown;
 ghost use mathlib.Core.Path.{_≡_};
 ghost use Prim.Native.Nat.{_≤_};
 ghost use lib.ListN.{length};
@@ -21,7 +29,7 @@ ghost use Rattle.meaning.specs.Layout.{count, readTask};
 ghost use Rattle.certificate.specs.Views.{outlineOf};
 ghost use Rattle.bodies.specs.Faults.{fault};
 ghost use Rattle.layout.specs.Rows.{walked};
-ghost use Rattle.layout.specs.Sections.{isWhole, factsAt, sectionAt, stepCountAt, stepsAt, rest, restAt};
+ghost use Rattle.layout.specs.Sections.{isWhole, factsAt, startAt, unknownAt, sectionAt, stepCountAt, stepsAt, rest, restAt};
 
 mod rows;
 
@@ -138,8 +146,8 @@ fn opening(file: &[u8]) -> Fault
             place: 4,
         };
     }
-    let head = task_head(file);
-    if head.version != 1 {
+    let version = byte_at(file, 4);
+    if !((version == 1) | (version == 2)) {
         return Fault::At {
             number: 2,
             place: 4,
@@ -151,13 +159,49 @@ fn opening(file: &[u8]) -> Fault
             place: 5,
         };
     }
-    if !((1 <= head.facts) & (head.facts <= 64)) {
+    let facts = byte_at(file, 5);
+    if !((1 <= facts) & (facts <= 64)) {
         return Fault::At {
             number: 4,
             place: 5,
         };
     }
     Fault::None
+}
+
+// The start and, where the version has them, the unknown facts: none of them is on there.
+fn start(file: &[u8], version: u8, facts: u8) -> Fault
+    requires { ⌜ (6 ≤ length (now file)) × (length (now file) ≤ 65536) ⌝ }
+    ensures { λ r. ⌜ r ≡ fault (startAt (now (file .entry)) version facts) ⌝ }
+{
+    if !has_unknown(version) {
+        let one = walk(file, Row::Masks(facts), 6, 1);
+        return one.fault;
+    }
+    let two = walk(file, Row::Masks(facts), 6, 2);
+    let w = two.fault;
+    if let Fault::At { number, place } = w {
+        return Fault::At { number, place };
+    }
+    if u64_at(file, 6) & u64_at(file, 14) == 0 {
+        Fault::None
+    } else {
+        Fault::At {
+            number: 16,
+            place: 14,
+        }
+    }
+}
+
+// The unknown facts, and none where the version has no field for them.
+fn unknown(file: &[u8], version: u8) -> u64
+    ensures { λ r. ⌜ r ≡ unknownAt (now (file .entry)) version ⌝ }
+{
+    if has_unknown(version) {
+        u64_at(file, 14)
+    } else {
+        0
+    }
 }
 
 // The fields from the version up to and with the actions. An action is three masks.
@@ -169,26 +213,31 @@ fn task(file: &[u8]) -> Fault
     if let Fault::At { number, place } = v {
         return Fault::At { number, place };
     }
-    let head = task_head(file);
-    let ends = walk(file, Row::Masks(head.facts), 6, 2);
-    let w = ends.fault;
+    let version = byte_at(file, 4);
+    let head = task_head(file, goal_span(version));
+    let s = start(file, version, head.facts);
+    if let Fault::At { number, place } = s {
+        return Fault::At { number, place };
+    }
+    let goal = walk(file, Row::Masks(head.facts), goal_at(version), 1);
+    let w = goal.fault;
     if let Fault::At { number, place } = w {
         return Fault::At { number, place };
     }
-    let x = count(file, 0, 256, 22);
+    let counted = action_count_at(version);
+    let x = count(file, 0, 256, counted);
     if let Fault::At { number, place } = x {
         return Fault::At { number, place };
     }
-    let actions = walk(file, Row::Masks(head.facts), 24, 3 * head.actions);
+    let actions = walk(file, Row::Masks(head.facts), counted + 2, 3 * head.actions);
     actions.fault
 }
 
-// What follows the actions, of a file with so many facts and actions.
-fn after_task(file: &[u8], limits: Limits, facts: u8, actions: u16) -> Rest
+// What follows the actions, from a place on, of a file with so many facts and actions.
+fn after_task(file: &[u8], limits: Limits, facts: u8, actions: u16, place: u32) -> Rest
     requires { ⌜ length (now file) ≤ 65536 ⌝ }
-    ensures { λ r. ⌜ r ≡ rest (restAt (now (file .entry)) limits facts actions) ⌝ }
+    ensures { λ r. ⌜ r ≡ rest (restAt (now (file .entry)) limits facts actions place) ⌝ }
 {
-    let place = 24 + 24 * (actions as u32);
     let first = counted(
         file,
         Section {
@@ -262,29 +311,29 @@ pub fn read_layout(file: &[u8], limits: Limits) -> Outline
     if let Fault::At { number, place } = v {
         return Outline::Refused { number, place };
     }
-    let head = task_head(file);
-    let rest = after_task(file, limits, head.facts, head.actions);
+    let version = byte_at(file, 4);
+    let head = task_head(file, goal_span(version));
+    let first = after_actions(version, head.actions);
+    let rest = after_task(file, limits, head.facts, head.actions, first);
     match rest {
         Rest::Refused { number, place } => Outline::Refused { number, place },
         Rest::After {
             action_sets,
             state_sets,
-        } => {
-            let first = 24 + 24 * (head.actions as u32);
-            Outline::Lawful(Places {
-                ends: Ends {
-                    facts: head.facts,
-                    init: head.init,
-                    goal: head.goal,
-                },
-                actions: head.actions,
-                action_sets: u16_at(file, first as usize),
-                state_sets: u16_at(file, action_sets as usize),
-                steps: u16_at(file, state_sets as usize),
-                action_sets_at: first + 2,
-                state_sets_at: action_sets + 2,
-                steps_at: state_sets + 2,
-            })
-        }
+        } => Outline::Lawful(Places {
+            ends: Ends {
+                facts: head.facts,
+                init: head.init,
+                unknown: unknown(file, version),
+                goal: head.goal,
+            },
+            actions: head.actions,
+            action_sets: u16_at(file, first as usize),
+            state_sets: u16_at(file, action_sets as usize),
+            steps: u16_at(file, state_sets as usize),
+            action_sets_at: first + 2,
+            state_sets_at: action_sets + 2,
+            steps_at: state_sets + 2,
+        }),
     }
 }

@@ -6,7 +6,6 @@ use native.Mathlib.Omega.{arith}
 use mathlib.Core.List.{List}
 use mathlib.Core.Bool.{Bool, true, false}
 use lib.Dec.{eqb}
-use borrow.Author.Tests.{ne-eqb}
 use Rattle.meaning.specs.Bytes.{number}
 use Rattle.meaning.specs.Layout.{goalAt, actionCountAt, actionSize, afterActions}
 use Rattle.meaning.specs.Structure.{actionSetCount}
@@ -18,13 +17,13 @@ pub record Placed (v : ℕ) : Type 0 where
   pub next : actionCountAt v ≡ goalAt v + 8
   pub size : actionSize v ≡ 24
 
-pub goal-first : (v : ℕ) → v ≡ 1 → goalAt v ≡ 14
+pub goal-first : (v : ℕ) → eqb v 1 ≡ true → goalAt v ≡ 14
 unfolding goalAt
-goal-first v e = rw e refl
+goal-first v e = rw (goalAt, e) refl
 
-pub goal-later : (v : ℕ) → (v ≡ 1 → ⊥) → goalAt v ≡ 22
+pub goal-later : (v : ℕ) → eqb v 1 ≡ false → goalAt v ≡ 22
 unfolding goalAt
-goal-later v n = rw (goalAt, ne-eqb v 1 n) refl
+goal-later v e = rw (goalAt, e) refl
 
 pub places : (v : ℕ) → Placed v
 unfolding goalAt actionCountAt actionSize

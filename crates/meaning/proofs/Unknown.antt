@@ -24,11 +24,8 @@ use Rattle.meaning.proofs.Again.{Spans, spans-none, mask-again}
 
 -- what is read of it: none in version 1; else a mask, with no fact of the start s
 pub data Unknown (bytes : List ℕ) (v n s u : ℕ) : Type 0 where
-  none : v ≡ 1 → u ≡ 0 → Unknown bytes v n s u
+  none : eqb v 1 ≡ true → u ≡ 0 → Unknown bytes v n s u
   some : eqb v 1 ≡ false → mask bytes n 14 ≡ found u → bitAnd s u ≡ 0 → Unknown bytes v n s u
-
-not-one : (v : ℕ) → eqb v 1 ≡ false → v ≡ 1 → ⊥
-not-one v e i = let z : true ≡ false = sym (rw i refl) ∙ e in subst T z tt
 
 -- a test that decides between two things
 by-test : {X : Type 0} (b : Bool) → (b ≡ true → X) → (b ≡ false → X) → X
@@ -40,7 +37,7 @@ module _ (bytes : List ℕ) (v n s : ℕ) where
   unfolding unknownMask
   unknown-out u e =
       by-test (eqb v 1)
-      (λ t. none (eqb→eq v 1 (subst T (sym t) tt)) (sym (found-same (rw (unknownMask, t) at e))))
+      (λ t. none t (sym (found-same (rw (unknownMask, t) at e))))
       (λ t.
       bind-case (mask bytes n 14) _ u (rw (unknownMask, t) at e) λ x x! e₁.
       need-case (eqb (bitAnd s x) 0) 16 14 _ u e₁ λ h q.
@@ -49,7 +46,7 @@ module _ (bytes : List ℕ) (v n s : ℕ) where
 
   pub unknown-in : {u : ℕ} → Unknown bytes v n s u → unknownMask bytes v n s ≡ found u
   unfolding unknownMask
-  unknown-in (none e z) = rw (e, z) refl
+  unknown-in (none e z) = rw (unknownMask, e, z) refl
   unknown-in (some e u! a) = rw (unknownMask, e) (bind-in _ u! (bind-in _ (need-in _ 16 14 (same a)) refl))
 
   -- it fits the format
@@ -59,9 +56,9 @@ module _ (bytes : List ℕ) (v n s : ℕ) where
 
 -- ---- where it is written
 
-written-none : (v : ℕ) (t : Task) → v ≡ 1 → writeUnknown v t ≡ []
+written-none : (v : ℕ) (t : Task) → eqb v 1 ≡ true → writeUnknown v t ≡ []
 unfolding writeUnknown
-written-none v t e = rw e refl
+written-none v t e = rw (writeUnknown, e) refl
 
 written-some : (v : ℕ) (t : Task) → eqb v 1 ≡ false → writeUnknown v t ≡ bytesOf 8 (t .unknown)
 unfolding writeUnknown
@@ -73,7 +70,7 @@ version-known v t (inl h) = rw (h .0) tt
 version-known v t (inr h) = rw h tt
 
 pub version-fits : (bytes : List ℕ) (v n s : ℕ) (t : Task) → T (eqb v 1 || eqb v 2) → Unknown bytes v n s (t .unknown) → FitsVersion v t
-version-fits bytes v n s t k (none e z) = inl (e, z)
+version-fits bytes v n s t k (none e z) = inl (eqb→eq v 1 (subst T (sym e) tt), z)
 version-fits bytes v n s t k (some e u! a) =
     elim (or-cases (eqb v 1) (eqb v 2) k) [ inl h ↦ absurd (subst T e h) | inr h ↦ inr (eqb→eq v 2 h) ]
 
@@ -81,17 +78,18 @@ version-fits bytes v n s t k (some e u! a) =
 pub unknown-back : (b rest : List ℕ) (v : ℕ) (t : Task) → FitsTask t → FitsVersion v t → At b 14 (writeUnknown v t ++ rest)
     → (unknownMask b v (t .facts) (t .init) ≡ found (t .unknown)) × At b (goalAt v) rest
 unknown-back b rest v t f (inl h) w =
-    let a : At b 14 rest = subst (λ (x : List ℕ). At b 14 (x ++ rest)) (written-none v t (h .0)) w in
-    (unknown-in b v (t .facts) (t .init) (none (h .0) (h .1)), rw (goal-first v (h .0)) a)
+    let e : eqb v 1 ≡ true = rw (h .0) refl in
+    let a : At b 14 rest = subst (λ (x : List ℕ). At b 14 (x ++ rest)) (written-none v t e) w in
+    (unknown-in b v (t .facts) (t .init) (none e (h .1)), rw (goal-first v e) a)
 unknown-back b rest v t f (inr h) w =
     let e : eqb v 1 ≡ false = rw h refl in
     let a : At b 14 (bytesOf 8 (t .unknown) ++ rest) = subst (λ (x : List ℕ). At b 14 (x ++ rest)) (written-some v t e) w in (
       unknown-in b v (t .facts) (t .init) (some e (mask-back b (t .facts) (f .few-facts) (t .unknown) (f .unknown) 14 rest a) (f .apart)),
-      rw (goal-later v (not-one v e)) (after-number b 14 8 (t .unknown) rest a 22 refl),
+      rw (goal-later v e) (after-number b 14 8 (t .unknown) rest a 22 refl),
     )
 
 -- what was read is what stands there
 pub unknown-again : (bytes : List ℕ) → AreBytes bytes → (v n s : ℕ) (t : Task) → Unknown bytes v n s (t .unknown)
     → Spans bytes 14 (goalAt v) (writeUnknown v t)
 unknown-again bytes h v n s t (none e z) = rw (written-none v t e, goal-first v e) (spans-none 14 14 refl)
-unknown-again bytes h v n s t (some e u! a) = rw (written-some v t e, goal-later v (not-one v e)) (mask-again bytes h n 14 22 refl (t .unknown) u!)
+unknown-again bytes h v n s t (some e u! a) = rw (written-some v t e, goal-later v e) (mask-again bytes h n 14 22 refl (t .unknown) u!)

@@ -1,12 +1,29 @@
 // The places in a file that depend on its version: from version 2 on the unknown facts stand between the start and the goal's mask.
 ghost use mathlib.Core.Path.{_≡_};
+ghost use Prim.Native.Nat.{_+_};
+ghost use mathlib.Core.Bool.{not};
+ghost use lib.Dec.{eqb};
 ghost use Rattle.meaning.specs.Layout.{goalAt, actionCountAt, afterActions};
+
+// Whether the unknown facts have a field.
+pub fn has_unknown(version: u8) -> bool
+    ensures { λ r. ⌜ r ≡ not (eqb version 1) ⌝ }
+{
+    version != 1
+}
+
+// How many bytes stand from the start's mask to the goal's.
+pub fn goal_span(version: u8) -> u8
+    ensures { λ r. ⌜ 6 + r ≡ goalAt version ⌝ }
+{
+    if has_unknown(version) { 16 } else { 8 }
+}
 
 // Where the goal's mask stands.
 pub fn goal_at(version: u8) -> u32
     ensures { λ r. ⌜ r ≡ goalAt version ⌝ }
 {
-    if version == 1 { 14 } else { 22 }
+    6 + goal_span(version) as u32
 }
 
 // Where the count of the actions stands, with the actions behind it.

@@ -10,33 +10,26 @@ returns c = version-cut (c .before .before .before .args .file .now) (c .before 
 
 returns-2 : tie.Need-returns-2
 returns-2 c =
-    let h = c .before .before in
-    let a = h .before .before .before .before .args in
-    version-other (a .file .now) (h .before .before .inside .ensures) (h .before .if1 .left) (λ i. h .task-head .ensures i .version)
-    (c .if2 .taken)
+    version-other (c .before .before .before .before .before .args .file .now) (c .before .before .before .inside .ensures) (c .before .before .if1 .left) (c .before .byte-at .ensures) (c .if2 .taken)
 
 returns-3 : tie.Need-returns-3
 returns-3 c =
-    let h = c .before .before .before .before in
-    let a = h .before .before .before .before .args in
-    facts-cut (a .file .now) (h .before .before .inside .ensures) (h .before .if1 .left) (λ i. h .task-head .ensures i .version)
-    (c .before .before .if2 .left) (c .before .inside2 .ensures) (c .if3 .taken)
+    facts-cut (c .before .before .before .before .before .before .before .args .file .now) (c .before .before .before .before .before .inside .ensures) (c .before .before .before .before .if1 .left)
+    (c .before .before .before .byte-at .ensures) (c .before .before .if2 .left) (c .before .inside2 .ensures) (c .if3 .taken)
 
 returns-4 : tie.Need-returns-4
 returns-4 c =
-    let s = c .before .before .before in
-    let h = s .before .before .before .before in
-    let a = h .before .before .before .before .args in
-    facts-bad (a .file .now) (h .before .before .inside .ensures) (h .before .if1 .left) (λ i. h .task-head .ensures i .version)
-    (s .before .before .if2 .left) (s .before .inside2 .ensures) (s .if3 .left) (λ i. h .task-head .ensures i .facts) (c .if4 .taken)
+    let s = c .before .before in
+    facts-bad (s .before .before .before .before .before .before .before .args .file .now) (s .before .before .before .before .before .inside .ensures) (s .before .before .before .before .if1 .left)
+    (s .before .before .before .byte-at .ensures) (s .before .before .if2 .left) (s .before .inside2 .ensures) (s .if3 .left)
+    (c .before .byte-at2 .ensures) (c .if4 .taken)
 
 returns-5 : tie.Need-returns-5
 returns-5 c =
-    let s = c .before .before .before in
-    let h = s .before .before .before .before in
-    let a = h .before .before .before .before .args in
-    facts-good (a .file .now) (h .before .before .inside .ensures) (h .before .if1 .left) (λ i. h .task-head .ensures i .version)
-    (s .before .before .if2 .left) (s .before .inside2 .ensures) (s .if3 .left) (λ i. h .task-head .ensures i .facts) (c .if4 .left)
+    let s = c .before .before in
+    facts-good (s .before .before .before .before .before .before .before .args .file .now) (s .before .before .before .before .before .inside .ensures) (s .before .before .before .before .if1 .left)
+    (s .before .before .before .byte-at .ensures) (s .before .before .if2 .left) (s .before .inside2 .ensures) (s .if3 .left)
+    (c .before .byte-at2 .ensures) (c .if4 .left)
 
 pub opening-spec : {M : Type 1} → statement M
 opening-spec =
@@ -48,5 +41,6 @@ opening-spec =
     returns-2
     (λ c κs. search needs)
     returns-3
+    (λ c κs. search needs)
     returns-4
     returns-5)

@@ -1,9 +1,14 @@
 -- `layout::read_layout` meets its contract.
 -- Assumes nothing.
-use mathlib.Core.Path.{refl}
+use mathlib.Core.Path.{_≡_, refl}
 use native.Mathlib.Omega.{arith}
-use Prim.Native.Nat.{_+_, _≤_}
+use Prim.Native.Nat.{ℕ, _+_, _≤_}
+use mathlib.Core.List.{List}
 use lib.ListN.{length}
+use Rattle.bytes.specs.Numbers.{numberAt}
+use Rattle.meaning.specs.Layout.{actionCountAt, actionSize}
+use Rattle.meaning.proofs.Places.{places, after-actions}
+use Rattle.layout.proofs.HeadLaws.{head-goal, head-actions}
 use Rattle.layout.proofs.LayoutLaws.{rest-ends, length-bad, length-most, length-over, task-bad, rest-bad, lawful}
 use borrow.Author.Needs.{needs}
 use Rattle.layout.proofs.read_layout.Statement.{statement}
@@ -32,40 +37,51 @@ returns-3 c =
     task-bad (a .limits) (a .file .now) (e .before .before .before .is-whole .ensures) (e .before .if1 .left) refl (e .if2 .left)
     (c .before .v .given .1) (c .before .before .before .task .ensures)
 
+-- the numbers of the task, as the laws of the whole file take them: from `t` on, where what follows the task is told
+abbrev bytes : tie.After-after-task → List ℕ
+bytes t = t .before .before .before .before .before .before .before .before .before .before .before .before .before .args .file .now
+
+actions-are : (t : tie.After-after-task) → t .before .before .task-head .result .actions ≡ numberAt 2 (bytes t) (actionCountAt (t .before .before .before .before .byte-at .result))
+actions-are t = head-actions (bytes t) _ _ (t .before .before .before .goal-span .ensures) (t .before .before .task-head .ensures)
+
 -- a section's count is within the file
-ends : (c : tie.After-u16-at3) → (c .before .before .before .before .before .rest2 .given .0 .0 + 2 ≤
-    65536) × (c .before .before .before .before .before .rest2 .given .0 .1 .0 + 2 ≤ 65536)
+ends : (c : tie.After-u16-at3) → (c .before .before .before .before .before .rest2 .given .0 .0 + 2 ≤ 65536) × (c .before .before .before .before .before .rest2 .given .0 .1 .0 + 2 ≤ 65536)
 ends c =
     let t = c .before .before .before .before .before .before .before in
-    let e = t .before .before .before .before .before in
-    let a = e .before .before .before .before .before .args in
-    let head! = t .before .task-head in
-    let h = short e in
-    let r = rest-ends (a .limits) (a .file .now) (head! .result .facts) (head! .result .actions)
+    let head! = t .before .before .task-head in
+    let h = short (t .before .before .before .before .before .before .before .before) in
+    let r = rest-ends (t .before .before .before .before .before .before .before .before .before .before .before .before .before .args .limits) (bytes t) (head! .result .facts) (head! .result .actions) (t .before .after-actions .result)
     (c .before .before .before .before .before .rest2 .given .1) (t .after-task .ensures) in
     (omega (arith, h, r .0), omega (arith, h, r .1))
+
+first-fits : tie.Need-add-t29
+unfolding actionSize
+first-fits c =
+    let t = c .before .before .before .before .before .before .before in
+    let v : ℕ = t .before .before .before .before .byte-at .result in
+    let o = places v in
+    let e = after-actions v (t .before .before .task-head .result .actions) in
+    record { fits = omega (arith, t .before .after-actions .ensures) }
 
 returns-4 : tie.Need-returns-4
 returns-4 c =
     let t = c .before .before .before in
-    let e = t .before .before .before .before .before in
-    let a = e .before .before .before .before .before .args in
-    rest-bad (a .limits) (a .file .now) (e .before .before .before .is-whole .ensures) (e .before .if1 .left) refl (e .if2 .left)
-    (t .before .before .enum-told .given .1) (t .before .before .before .before .task .ensures)
-    (λ i. t .before .task-head .ensures i .facts) (λ i. t .before .task-head .ensures i .actions)
+    let e = t .before .before .before .before .before .before .before .before in
+    rest-bad (t .before .before .before .before .before .before .before .before .before .before .before .before .before .args .limits) (bytes t) (e .before .before .before .is-whole .ensures) (e .before .if1 .left) refl (e .if2 .left)
+    (t .before .before .before .before .before .enum-told .given .1) (t .before .before .before .before .before .before .before .task .ensures) (t .before .before .before .before .byte-at .ensures)
+    (λ i. t .before .before .task-head .ensures i .facts) (actions-are t) (t .before .after-actions .ensures)
     (c .before .rest .given .1) (t .after-task .ensures)
 
 returns-5 : tie.Need-returns-5
 returns-5 c =
     let t = c .before .before .before .before .before .before .before in
-    let e = t .before .before .before .before .before in
-    let a = e .before .before .before .before .before .args in
-    let head! = t .before .task-head in
-    lawful (a .limits) (a .file .now) (e .before .before .before .is-whole .ensures) (e .before .if1 .left) refl (e .if2 .left)
-    (t .before .before .enum-told .given .1) (t .before .before .before .before .task .ensures)
-    (λ i. head! .ensures i .facts) (λ i. head! .ensures i .actions)
-    (λ i. head! .ensures i .init) (λ i. head! .ensures i .goal) (c .before .before .u16-at .ensures) (c .before .u16-at2 .ensures)
-    (c .u16-at3 .ensures)
+    let e = t .before .before .before .before .before .before .before .before in
+    let head! = t .before .before .task-head in
+    lawful (t .before .before .before .before .before .before .before .before .before .before .before .before .before .args .limits) (bytes t) (e .before .before .before .is-whole .ensures) (e .before .if1 .left) refl (e .if2 .left)
+    (t .before .before .before .before .before .enum-told .given .1) (t .before .before .before .before .before .before .before .task .ensures) (t .before .before .before .before .byte-at .ensures)
+    (λ i. head! .ensures i .facts) (actions-are t) (t .before .after-actions .ensures)
+    (λ i. head! .ensures i .init) (c .before .before .before .unknown .ensures) (head-goal (bytes t) _ _ (t .before .before .before .goal-span .ensures) (head! .ensures))
+    (c .before .before .u16-at .ensures) (c .before .u16-at2 .ensures) (c .u16-at3 .ensures)
     (c .before .before .before .before .before .rest2 .given .1) (t .after-task .ensures)
 
 pub read-layout-spec : {M : Type 1} → statement M
@@ -81,11 +97,10 @@ read-layout-spec =
     returns-3
     (λ c. search needs)
     (λ c κs. search needs)
-    (λ c κs. short (c .before .before .before .before))
-    (λ c. search needs)
-    (λ c. search needs)
-    (λ c. search needs)
-    (λ c. search needs)
+    (λ c κs. search needs)
+    (λ c κs. search needs)
+    (λ c κs. search needs)
+    (λ c κs. short (c .before .before .before .before .before .before .before))
     (λ c. search needs)
     (λ c. search needs)
     (λ c κs. search needs)
@@ -94,6 +109,8 @@ read-layout-spec =
     (λ c. search needs)
     (λ c κs. search needs)
     (λ c. search needs)
+    (λ c κs. search needs)
+    first-fits
     (λ c. let e = ends c .0 in search needs)
     (λ c. let e = ends c .1 in search needs)
     returns-4
