@@ -40,14 +40,15 @@ kind-end xs j n k found l g p = let e : j ≡ n = omega arith in p ∙ ap (λ (i
 -- ---- the anchor
 
 -- no leaf from a number up to another is one
-abbrev pub NoAnchor : List ℕ → ℕ → ℕ → Type 0
-NoAnchor left from r = (j : ℕ) → from ≤ j → j < r → T (mayAnchor (leafIn left j .set)) → ⊥
+abbrev pub NoAnchor : Bool → List ℕ → ℕ → ℕ → Type 0
+NoAnchor few left from r = (j : ℕ) → from ≤ j → j < r → T (mayAnchor few (leafIn left j .set)) → ⊥
 
-pub anchor-next : (left : List ℕ) (from r : ℕ) → NoAnchor left from r → mayAnchor (leafIn left r .set) ≡ false → NoAnchor left from (r + 1)
-anchor-next left from r h e j l g t =
+pub anchor-next : (few : Bool) (left : List ℕ) (from r : ℕ) → NoAnchor few left from r → mayAnchor few (leafIn left r .set) ≡ false
+    → NoAnchor few left from (r + 1)
+anchor-next few left from r h e j l g t =
     let below : j ≤ r = omega arith in
     ⊎-elim
-    (λ (p : j ≡ r). subst (λ (b : Bool). T b → ⊥) (sym e) (λ x. x) (subst (λ (i : ℕ). T (mayAnchor (leafIn left i .set))) p t))
+    (λ (p : j ≡ r). subst (λ (b : Bool). T b → ⊥) (sym e) (λ x. x) (subst (λ (i : ℕ). T (mayAnchor few (leafIn left i .set))) p t))
     (λ q. h j l q t) (eq-or-lt-of-le below)
 
 -- ---- by rule

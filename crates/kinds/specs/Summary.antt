@@ -14,14 +14,14 @@ use Rattle.kinds.specs.declared.Gathered.{Gathered}
 use Rattle.kinds.specs.declared.Counts.{Counts}
 use Rattle.kinds.specs.declared.Flags.{Flags}
 
--- sets whose states are listed: none, the initial state, an explicit list
-abbrev pub mayAnchor : BasicEntry → Bool
-mayAnchor Empty = true
-mayAnchor Init = true
-mayAnchor Goal = false
-mayAnchor (Explicit s) = true
-mayAnchor (Horn s) = false
-mayAnchor (TwoCnf s) = false
+-- sets whose states are listed: none, the initial states where they are few, an explicit list
+abbrev pub mayAnchor : Bool → BasicEntry → Bool
+mayAnchor few Empty = true
+mayAnchor few Init = few
+mayAnchor few Goal = false
+mayAnchor few (Explicit s) = true
+mayAnchor few (Horn s) = false
+mayAnchor few (TwoCnf s) = false
 
 -- ---- the kinds that stand in the arrays
 
@@ -40,11 +40,11 @@ flagsIn left m right n = record {
 }
 
 -- the first of the leaves from a number up to another whose states are listed
-pub record Anchor (left : List ℕ) (from to r : ℕ) : Type 0 where
+pub record Anchor (few : Bool) (left : List ℕ) (from to r : ℕ) : Type 0 where
   pub after : from ≤ r
   pub within : r ≤ to
-  pub here : r < to → T (mayAnchor (leafIn left r .set))
-  pub first : (j : ℕ) → from ≤ j → j < r → T (mayAnchor (leafIn left j .set)) → ⊥
+  pub here : r < to → T (mayAnchor few (leafIn left r .set))
+  pub first : (j : ℕ) → from ≤ j → j < r → T (mayAnchor few (leafIn left j .set)) → ⊥
 
 -- rule 2 has its anchor inside the bracket, the others outside
 unfoldable pub fromOf : ℕ → Counts → ℕ
@@ -68,11 +68,11 @@ module _ (x : Flags) where
 unfoldable pub permitsBy : ℕ → Flags → ℕ → Bool → Bool
 permitsBy rule x n anchored = elim (eqb rule 4) [ true ↦ pairBy x | false ↦ clausesBy x n || statesBy x anchored ]
 
-pub record Summary (rule : ℕ) (left right : List ℕ) (n : Counts) (actions : ℕ) (r : Gathered) : Type 0 where
+pub record Summary (few : Bool) (rule : ℕ) (left right : List ℕ) (n : Counts) (actions : ℕ) (r : Gathered) : Type 0 where
   pub left-count : r .«left_count» ≡ n .left
   pub right-count : r .«right_count» ≡ n .right
   pub action-set : r .actions ≡ actions
   pub listed : r .listed ≡ kindIn left (n .left) 3 || kindIn right (n .right) 3
   pub two : r .two ≡ kindIn left (n .left) 5
-  pub anchor : Anchor left (fromOf rule n) (toOf rule n) (r .anchor)
+  pub anchor : Anchor few left (fromOf rule n) (toOf rule n) (r .anchor)
   pub permits : r .permitted ≡ permitsBy rule (flagsIn left (n .left) right (n .right)) (n .right) (ltb (r .anchor) (toOf rule n))

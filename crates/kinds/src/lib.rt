@@ -17,7 +17,7 @@ pub struct Gathered {
     pub two: bool,
     pub left_count: u32,
     pub right_count: u32,
-    // The left leaf whose states are listed, where one is explicit.
+    // The left leaf whose states are tried, where one is explicit.
     pub anchor: u32,
     // The action set of rules 2 and 3.
     pub actions: u16,
@@ -76,13 +76,13 @@ fn flags_in(left: &[u64; 24], right: &[u64; 16], n: Counts) -> Flags
     }
 }
 
-// Whether a set's states are listed: none, the initial state, an explicit list.
-fn may_anchor(x: BasicEntry) -> bool
-    ensures { λ r. ⌜ r ≡ mayAnchor x ⌝ }
+// Whether a set's states are listed: none, the initial states where they are few, an explicit list.
+fn may_anchor(few: bool, x: BasicEntry) -> bool
+    ensures { λ r. ⌜ r ≡ mayAnchor few x ⌝ }
 {
     match x {
         BasicEntry::Empty => true,
-        BasicEntry::Init => true,
+        BasicEntry::Init => few,
         BasicEntry::Goal => false,
         BasicEntry::Explicit(_) => true,
         BasicEntry::Horn(_) => false,
@@ -91,15 +91,15 @@ fn may_anchor(x: BasicEntry) -> bool
 }
 
 // The first of the leaves from a number up to another whose states are listed; the other number where none is.
-fn anchor_in(left: &[u64; 24], from: u32, to: u32) -> u32
+fn anchor_in(few: bool, left: &[u64; 24], from: u32, to: u32) -> u32
     requires { ⌜ from ≤ to ⌝ }
     requires { ⌜ to ≤ 24 ⌝ }
-    ensures { λ r. ⌜ Anchor (now (left .entry)) from to r ⌝ }
+    ensures { λ r. ⌜ Anchor few (now (left .entry)) from to r ⌝ }
 {
     let mut j = from;
     while j < to {
         let set = leaf_at(left, j as usize).set;
-        if may_anchor(set) {
+        if may_anchor(few, set) {
             return j;
         }
         j += 1;
@@ -115,15 +115,15 @@ fn anchors_end(rule: u8, n: Counts) -> u32
 }
 
 // Rule 2 has its anchor inside the bracket, the others outside.
-fn find_anchor(rule: u8, left: &[u64; 24], n: Counts) -> u32
+fn find_anchor(few: bool, rule: u8, left: &[u64; 24], n: Counts) -> u32
     requires { ⌜ n .outside ≤ n .left ⌝ }
     requires { ⌜ n .left ≤ 24 ⌝ }
-    ensures { λ r. ⌜ Anchor (now (left .entry)) (fromOf rule n) (toOf rule n) r ⌝ }
+    ensures { λ r. ⌜ Anchor few (now (left .entry)) (fromOf rule n) (toOf rule n) r ⌝ }
 {
     if rule == 2 {
-        anchor_in(left, n.outside, n.left)
+        anchor_in(few, left, n.outside, n.left)
     } else {
-        anchor_in(left, 0, n.outside)
+        anchor_in(few, left, 0, n.outside)
     }
 }
 
@@ -142,13 +142,13 @@ fn permits(rule: u8, x: Flags, right: u32, anchored: bool) -> bool
     if rule == 4 { pair } else { clauses | states }
 }
 
-// What the arrays tell of a statement.
-pub fn summary(rule: u8, left: &[u64; 24], right: &[u64; 16], n: Counts, actions: u16) -> Gathered
+// What the arrays tell of a statement, where the initial states are few or not.
+pub fn summary(few: bool, rule: u8, left: &[u64; 24], right: &[u64; 16], n: Counts, actions: u16) -> Gathered
     requires { ⌜ (n .outside ≤ n .left) × (n .left ≤ 24) × (n .right ≤ 16) ⌝ }
-    ensures { λ r. ⌜ Summary rule (now (left .entry)) (now (right .entry)) n actions r ⌝ }
+    ensures { λ r. ⌜ Summary few rule (now (left .entry)) (now (right .entry)) n actions r ⌝ }
 {
     let x = flags_in(left, right, n);
-    let anchor = find_anchor(rule, left, n);
+    let anchor = find_anchor(few, rule, left, n);
     let anchored = anchor < anchors_end(rule, n);
     let permitted = permits(rule, x, n.right, anchored);
     Gathered {

@@ -14,7 +14,7 @@ use lib.Dec.{eqb, eqb→eq, ltb}
 use borrow.Author.Tests.{eq-eqb, ne-eqb}
 use Rattle.task.proofs.Tests.{excluded, never, same}
 use Rattle.meaning.specs.File.{File}
-use Rattle.meaning.specs.Shapes.{Sides, kindAt, child, movedLeft, bracket}
+use Rattle.meaning.specs.Shapes.{Sides, kindAt, child, movedLeft, bracket, listsInit}
 use Rattle.counterexample.specs.Counter.{Asked, leftLeaves}
 use Rattle.leaves.specs.declared.Leaf.{Leaf}
 use Rattle.leaves.specs.Leaves.{kindOf, leafIn}
@@ -147,9 +147,9 @@ module _ (f : File) (h : Bool) (x : Sides) (index was is : List ℕ) (r : ℕ)
           | inr m ↦ outside-place (λ e. never (eqb rule 2) (same e) m)
         ]
 
-    module _ (a : ℕ) (anchor : Anchor is (fromOf rule n) (toOf rule n) a) where
-      pub anchored : ltb a (toOf rule n) ≡ hit (anchorsOf f rule x)
-      anchored = anchor-found is (anchorsOf f rule x) (fromOf rule n) (toOf rule n) a (place .size) (place .row) anchor
+    module _ (a : ℕ) (anchor : Anchor (listsInit f) is (fromOf rule n) (toOf rule n) a) where
+      pub anchored : ltb a (toOf rule n) ≡ hit (listsInit f) (anchorsOf f rule x)
+      anchored = anchor-found (listsInit f) is (anchorsOf f rule x) (fromOf rule n) (toOf rule n) a (place .size) (place .row) anchor
 
       pub anchor-old : a < toOf rule n → (a < n .left) × (leafIn is a .after ≡ false)
       anchor-old l = (omega (arith, place .within), place .old a (anchor .after) l)

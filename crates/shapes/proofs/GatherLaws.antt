@@ -10,7 +10,7 @@ use lib.Dec.{T, eqb, eqb→eq, ltb, ltb→lt}
 use Rattle.task.specs.Reach.{member, every}
 use Rattle.task.proofs.Tests.{and-left, and-right, holds}
 use Rattle.meaning.specs.File.{File}
-use Rattle.meaning.specs.Shapes.{keep, Sides, isBasic, isLiteral, movedLeft, movedRight, bracket}
+use Rattle.meaning.specs.Shapes.{keep, Sides, isBasic, isLiteral, movedLeft, movedRight, bracket, listsInit}
 use Rattle.counterexample.specs.Counter.{Asked, leftLeaves, rightLeaves}
 use Rattle.leaves.specs.Leaves.{leafIn, leavesIn}
 use Rattle.kinds.specs.Summary.{mayAnchor}
@@ -58,11 +58,11 @@ abbrev pub countBy : File → Sides → ℕ
 countBy f x = length (keep (λ k. not (eqb k 0)) (movedRight f x))
 
 abbrev pub SortedBy : File → ℕ → Sides → Type 0
-SortedBy f rule x = Sorted (flagsBy f x) (countBy f x) (hit (anchorsOf f rule x))
+SortedBy f rule x = Sorted (flagsBy f x) (countBy f x) (hit (listsInit f) (anchorsOf f rule x))
 
 module _ (f : File) (index : List ℕ) (rule a b : ℕ) (lit : literalsOf f (sidesOf f rule a b) ≡ true)
     (left₀ left right₀ right : List ℕ) (n : Counts) (fill : Filled f index (eqb rule 2) (sidesOf f rule a b) left₀ left right₀ right n)
-    (actions : ℕ) (r : Gathered) (dec : Summary rule left right n actions r) where
+    (actions : ℕ) (r : Gathered) (dec : Summary (listsInit f) rule left right n actions r) where
   abbrev x : Sides
   x = sidesOf f rule a b
 
@@ -126,11 +126,11 @@ module _ (f : File) (index : List ℕ) (rule a b : ℕ) (lit : literalsOf f (sid
   own : n .outside ≡ length (outsideLeaves f h x)
   own = fill .outside ∙ ap length (picked-outside f h x)
 
-  found : ltb (r .anchor) (toOf rule n) ≡ hit (anchorsOf f rule x)
+  found : ltb (r .anchor) (toOf rule n) ≡ hit (listsInit f) (anchorsOf f rule x)
   found = anchored f h x index left₀ left (n .left) on-left low-left rule n refl own refl (r .anchor) (dec .anchor)
 
   -- the shape by the kinds on the two sides
-  pub permits-are : r .permitted ≡ permitsBy rule (flagsBy f x) (countBy f x) (hit (anchorsOf f rule x))
+  pub permits-are : r .permitted ≡ permitsBy rule (flagsBy f x) (countBy f x) (hit (listsInit f) (anchorsOf f rule x))
   permits-are = dec .permits ∙ cc (flags-are, right-number, found)
 
   -- ---- the leaves
@@ -151,7 +151,7 @@ module _ (f : File) (index : List ℕ) (rule a b : ℕ) (lit : literalsOf f (sid
       (omega (arith, dec .right-count, right-number, w .0), apart)
 
   states-anchor : SortedBy f rule x → r .listed ≡ true
-      → (r .anchor < r .«left_count») × T (mayAnchor (leafIn left (r .anchor) .set)) × (leafIn left (r .anchor) .after ≡ false)
+      → (r .anchor < r .«left_count») × T (mayAnchor (listsInit f) (leafIn left (r .anchor) .set)) × (leafIn left (r .anchor) .after ≡ false)
   states-anchor s e =
       let l : r .anchor < toOf rule n = ltb→lt (r .anchor) (toOf rule n) (subst T (sym found) (s .states (sym listed-is ∙ e))) in
       let w = anchor-old f h x index left₀ left (n .left) on-left low-left rule n refl own refl (r .anchor) (dec .anchor) l in

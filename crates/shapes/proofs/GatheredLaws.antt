@@ -12,7 +12,7 @@ use Rattle.task.specs.Reach.{member, every}
 use Rattle.task.proofs.Tests.{and-left, excluded, never, same, holds, is-false}
 use Rattle.meaning.specs.File.{File}
 use Rattle.meaning.specs.Shapes.{Sides, isLiteral, isComplement, literalKind, mixed, movedLeft, bracket, ofLiterals, ofClauses, ofStates}
-use Rattle.meaning.specs.Shapes.{permitted, shape₄}
+use Rattle.meaning.specs.Shapes.{listsInit, permitted, shape₄}
 use Rattle.parts.specs.Written.{shapeOf, sidesOf}
 use Rattle.shapes.specs.Gathered.{Gathers}
 use Rattle.kinds.specs.declared.Counts.{Counts}
@@ -97,38 +97,38 @@ module _ (f : File) (index : List ℕ) (rule a b : ℕ) (p : Parts) (part : Part
 
   module _ (lit : literalsOf f (sidesIn p) ≡ true) (left₀ left right₀ right : List ℕ) (n : Counts)
       (fill : Filled f index (eqb rule 2) (sidesIn p) left₀ left right₀ right n) (zeros : Zeros right₀)
-      (r : Gathered) (dec : Summary rule left right n (p .actions) r) where
+      (r : Gathered) (dec : Summary (listsInit f) rule left right n (p .actions) r) where
     lit′ : literalsOf f x ≡ true
     lit′ = subst (λ (y : Sides). literalsOf f y ≡ true) sides lit
 
     fill′ : Filled f index (eqb rule 2) x left₀ left right₀ right n
     fill′ = subst (λ (y : Sides). Filled f index (eqb rule 2) y left₀ left right₀ right n) sides fill
 
-    permits : r .permitted ≡ permitsBy rule (flagsBy f x) (countBy f x) (hit (anchorsOf f rule x))
+    permits : r .permitted ≡ permitsBy rule (flagsBy f x) (countBy f x) (hit (listsInit f) (anchorsOf f rule x))
     permits = permits-are f index rule a b lit′ left₀ left right₀ right n fill′ (p .actions) r dec
 
     -- rules 1 to 3
     module _ (other : rule ≡ 4 → ⊥) where
-      sorts : r .permitted ≡ (clausesBy (flagsBy f x) (countBy f x) || statesBy (flagsBy f x) (hit (anchorsOf f rule x)))
-      sorts = permits ∙ permits-sorts rule (flagsBy f x) (countBy f x) (hit (anchorsOf f rule x)) other
+      sorts : r .permitted ≡ (clausesBy (flagsBy f x) (countBy f x) || statesBy (flagsBy f x) (hit (listsInit f) (anchorsOf f rule x)))
+      sorts = permits ∙ permits-sorts rule (flagsBy f x) (countBy f x) (hit (listsInit f) (anchorsOf f rule x)) other
 
       shape-sorts : r .permitted ≡ shapeOf f rule a b
       shape-sorts = sorts ∙ sym (permitted-by f x lit′ (few .0) (few .1) (anchorsOf f rule)) ∙ sym (part .shape ok other)
 
       sorted-sorts : r .permitted ≡ true → SortedBy f rule x
-      sorted-sorts e = sorted (flagsBy f x) (countBy f x) (hit (anchorsOf f rule x)) (holds (sym sorts ∙ e))
+      sorted-sorts e = sorted (flagsBy f x) (countBy f x) (hit (listsInit f) (anchorsOf f rule x)) (holds (sym sorts ∙ e))
 
     -- rule 4
     module _ (four : rule ≡ 4) where
       pair : r .permitted ≡ pairBy (flagsBy f x)
-      pair = permits ∙ permits-pair rule (flagsBy f x) (countBy f x) (hit (anchorsOf f rule x)) four
+      pair = permits ∙ permits-pair rule (flagsBy f x) (countBy f x) (hit (listsInit f) (anchorsOf f rule x)) four
 
       abbrev Pair : ℕ → Type 0
       Pair m =
           literalsOf f (sidesOf f m a b) ≡ true
           → (shapeOf f m a b ≡ pairBy (flagsBy f (sidesOf f m a b)))
           × (countBy f (sidesOf f m a b) ≤ 2)
-          × (T (member 3 (movedLeft f (sidesOf f m a b) ++ bracket f (sidesOf f m a b))) → T (hit (anchorsOf f m (sidesOf f m a b))))
+          × (T (member 3 (movedLeft f (sidesOf f m a b) ++ bracket f (sidesOf f m a b))) → T (hit (listsInit f) (anchorsOf f m (sidesOf f m a b))))
 
       at-four : Pair 4
       unfolding shapeOf sidesOf anchorsOf
@@ -142,7 +142,7 @@ module _ (f : File) (index : List ℕ) (rule a b : ℕ) (p : Parts) (part : Part
 
       sorted-four : r .permitted ≡ true → SortedBy f rule x
       sorted-four e =
-          sorted-pair (flagsBy f x) (countBy f x) (hit (anchorsOf f rule x)) (holds (sym pair ∙ e)) (paired lit′ .1) (paired lit′ .2)
+          sorted-pair (flagsBy f x) (countBy f x) (hit (listsInit f) (anchorsOf f rule x)) (holds (sym pair ∙ e)) (paired lit′ .1) (paired lit′ .2)
 
     pub shape-right : r .permitted ≡ shapeOf f rule a b
     shape-right = by-rule f rule a b p part shape-pair shape-sorts

@@ -5,7 +5,7 @@ use mathlib.Core.Logic.{inl, inr}
 use Prim.Native.Nat.{ℕ, zero, suc, _+_, _-_, _≤_, _<_}
 use native.Mathlib.Nat.{not-suc-le-zero, le-of-suc-le-suc}
 use native.Mathlib.Omega.{arith}
-use mathlib.Core.Bool.{Bool, _||_, or-assoc}
+use mathlib.Core.Bool.{Bool, true, false, _&&_, _||_, or-assoc}
 use mathlib.Core.List.{List, [], _∷_, _++_, map}
 use lib.ListN.{length, take, getD, length-map}
 use lib.Seq.{getD-take}
@@ -13,7 +13,7 @@ use lib.Dec.{T, eqb, eqb→eq, leb, ltb, ltb→lt, nltb→le}
 use denote.Enum.Declared.{tagOf}
 use types.Run.{OneOf, miss}
 use Rattle.task.specs.Reach.{member}
-use Rattle.task.proofs.Tests.{both-ways, or-left, or-right, or-cases, excluded, same, member-first, member-rest, member-cases, member-none}
+use Rattle.task.proofs.Tests.{both-ways, and-left, and-right, and-both, or-left, or-right, or-cases, excluded, same, member-first, member-rest, member-cases, member-none}
 use Rattle.meaning.specs.File.{File, StateSet, basic, complement, intersection, union, progression, regression, stateSetAt, stateKind}
 use Rattle.meaning.specs.Shapes.{kindAt, isBasic}
 use Rattle.counterexample.specs.Counter.{Asked}
@@ -141,59 +141,66 @@ kind-in is ks n k e row =
 -- ---- the anchor
 
 -- the kinds of sets whose states are listed
-abbrev listedKind : ℕ → Bool
-listedKind k = eqb k 0 || eqb k 1 || eqb k 3
+abbrev listedKind : Bool → ℕ → Bool
+listedKind few k = eqb k 0 || (eqb k 1 && few) || eqb k 3
 
-may-by-kind : (b : BasicEntry) → mayAnchor b ≡ listedKind (kindOf b)
+may-by-kind : (few : Bool) (b : BasicEntry) → mayAnchor few b ≡ listedKind few (kindOf b)
 unfolding kindOf
-may-by-kind Empty = refl
-may-by-kind Init = refl
-may-by-kind Goal = refl
-may-by-kind (Explicit s) = refl
-may-by-kind (Horn s) = refl
-may-by-kind (TwoCnf s) = refl
+may-by-kind few Empty = refl
+may-by-kind true Init = refl
+may-by-kind false Init = refl
+may-by-kind few Goal = refl
+may-by-kind few (Explicit s) = refl
+may-by-kind few (Horn s) = refl
+may-by-kind few (TwoCnf s) = refl
 
 -- one of these kinds is among those of the list
-unfoldable pub hit : List ℕ → Bool
-hit ks = member 0 ks || member 1 ks || member 3 ks
+unfoldable pub hit : Bool → List ℕ → Bool
+hit few ks = member 0 ks || (member 1 ks && few) || member 3 ks
 
-anchors-listed : (k : ℕ) (ks : List ℕ) → T (member k ks) → T (listedKind k) → T (hit ks)
+anchors-listed : (few : Bool) (k : ℕ) (ks : List ℕ) → T (member k ks) → T (listedKind few k) → T (hit few ks)
 unfolding hit
-anchors-listed k ks m t =
-    elim (or-cases (eqb k 0 || eqb k 1) (eqb k 3) t) [
-      | inl u ↦ or-left (member 0 ks || member 1 ks) (member 3 ks) (elim (or-cases (eqb k 0) (eqb k 1) u) [
-        | inl e ↦ or-left (member 0 ks) (member 1 ks) (subst (λ (j : ℕ). T (member j ks)) (eqb→eq k 0 e) m)
-        | inr e ↦ or-right (member 0 ks) (member 1 ks) (subst (λ (j : ℕ). T (member j ks)) (eqb→eq k 1 e) m)
+anchors-listed few k ks m t =
+    let at : (j : ℕ) → T (eqb k j) → T (member j ks) = λ j e. subst (λ (i : ℕ). T (member i ks)) (eqb→eq k j e) m in
+    elim (or-cases (eqb k 0 || (eqb k 1 && few)) (eqb k 3) t) [
+      | inl u ↦ or-left (member 0 ks || (member 1 ks && few)) (member 3 ks) (elim (or-cases (eqb k 0) (eqb k 1 && few) u) [
+        | inl e ↦ or-left (member 0 ks) (member 1 ks && few) (at 0 e)
+        | inr e ↦ or-right (member 0 ks) (member 1 ks && few)
+            (and-both (member 1 ks) few (at 1 (and-left (eqb k 1) few e)) (and-right (eqb k 1) few e))
       ])
-      | inr e ↦ or-right (member 0 ks || member 1 ks) (member 3 ks) (subst (λ (j : ℕ). T (member j ks)) (eqb→eq k 3 e) m)
+      | inr e ↦ or-right (member 0 ks || (member 1 ks && few)) (member 3 ks) (at 3 e)
     ]
 
-listed-anchors : (ks : List ℕ) → T (hit ks) → (k : ℕ) × T (member k ks) × T (listedKind k)
+listed-anchors : (few : Bool) (ks : List ℕ) → T (hit few ks) → (k : ℕ) × T (member k ks) × T (listedKind few k)
 unfolding hit
-listed-anchors ks t =
-    elim (or-cases (member 0 ks || member 1 ks) (member 3 ks) t) [
-      | inl u ↦ elim (or-cases (member 0 ks) (member 1 ks) u) [ inl m ↦ (0, m, tt) | inr m ↦ (1, m, tt) ]
+listed-anchors few ks t =
+    elim (or-cases (member 0 ks || (member 1 ks && few)) (member 3 ks) t) [
+      | inl u ↦ elim (or-cases (member 0 ks) (member 1 ks && few) u) [
+        | inl m ↦ (0, m, tt)
+        | inr m ↦ (1, and-left (member 1 ks) few m, or-left few false (and-right (member 1 ks) few m))
+      ]
       | inr m ↦ (3, m, tt)
     ]
 
 -- an anchor is found if and only if one is there
-pub anchor-found : (is ks : List ℕ) (from to r : ℕ) → to ≡ from + length ks → Row is from ks → Anchor is from to r → ltb r to ≡ hit ks
-anchor-found is ks from to r e row h =
-    both-ways (ltb r to) (hit ks)
+pub anchor-found : (few : Bool) (is ks : List ℕ) (from to r : ℕ) → to ≡ from + length ks → Row is from ks → Anchor few is from to r
+    → ltb r to ≡ hit few ks
+anchor-found few is ks from to r e row h =
+    both-ways (ltb r to) (hit few ks)
     (λ t.
     let l : r < to = ltb→lt r to t in
     let i : ℕ = r - from in
     let z : from + i ≡ r = omega (arith, h .after) in
     let g : i < length ks = omega (arith, h .after) in
     let q : kindOf (leafIn is r .set) ≡ getD ks i 0 = sym (ap (λ (j : ℕ). kindOf (leafIn is j .set)) z) ∙ row i g in
-    let u : mayAnchor (leafIn is r .set) ≡ listedKind (getD ks i 0) = may-by-kind (leafIn is r .set) ∙ ap listedKind q in
-    anchors-listed (getD ks i 0) ks (member-at ks i g) (subst T u (h .here l)))
+    let u : mayAnchor few (leafIn is r .set) ≡ listedKind few (getD ks i 0) = may-by-kind few (leafIn is r .set) ∙ ap (listedKind few) q in
+    anchors-listed few (getD ks i 0) ks (member-at ks i g) (subst T u (h .here l)))
     (λ t.
-    let w = listed-anchors ks t in
+    let w = listed-anchors few ks t in
     let v = member-index (w .0) ks (w .1) in
     let at : ℕ = from + v .0 in
     let q : kindOf (leafIn is at .set) ≡ w .0 = row (v .0) (v .1) ∙ v .2 in
-    let u : listedKind (w .0) ≡ mayAnchor (leafIn is at .set) = sym (may-by-kind (leafIn is at .set) ∙ ap listedKind q) in
+    let u : listedKind few (w .0) ≡ mayAnchor few (leafIn is at .set) = sym (may-by-kind few (leafIn is at .set) ∙ ap (listedKind few) q) in
     let g : at < to = omega (arith, v .1) in
     elim (excluded (ltb r to)) [
       | inl y ↦ y

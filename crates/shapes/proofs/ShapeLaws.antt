@@ -13,7 +13,7 @@ use Rattle.task.proofs.Tests.{is-true}
 use Rattle.meaning.specs.File.{File}
 use Rattle.meaning.specs.Sets.{allBelow}
 use Rattle.meaning.specs.Shapes.{keep, Sides, isComplement, isLiteral, literalKind, complements, others, movedLeft, movedRight, bracket}
-use Rattle.meaning.specs.Shapes.{used, ofLiterals, ofClauses, ofStates, permitted, mixed, shape₄}
+use Rattle.meaning.specs.Shapes.{used, ofLiterals, ofClauses, listsInit, ofStates, permitted, mixed, shape₄}
 use Rattle.kinds.specs.declared.Flags.{Flags}
 use Rattle.kinds.specs.Summary.{clausesBy, statesBy, pairBy}
 use Rattle.parts.specs.Written.{literalsOf}
@@ -48,7 +48,7 @@ module _ (f : File) (x : Sides) (lit : literalsOf f x ≡ true) (left : length (
 
   -- rules 1 to 3
   pub permitted-by : (anchors : Sides → List ℕ) → permitted f anchors x
-      ≡ (clausesBy flags (length (keep (λ k. not (eqb k 0)) (movedRight f x))) || statesBy flags (hit (anchors x)))
+      ≡ (clausesBy flags (length (keep (λ k. not (eqb k 0)) (movedRight f x))) || statesBy flags (hit (listsInit f) (anchors x)))
   unfolding permitted ofClauses ofStates clausesBy statesBy hit
   permitted-by anchors =
       let a = in-used 3 in

@@ -11,7 +11,7 @@ use lib.Dec.{T, eqb, leb, leb→le}
 use Rattle.task.specs.Reach.{member}
 use Rattle.task.proofs.Tests.{and-left, and-right, and-both, or-left, or-right, or-cases, never, holds}
 use Rattle.meaning.specs.File.{File}
-use Rattle.meaning.specs.Shapes.{keep, isComplement, literalKind, others, complements, movedLeft, movedRight, bracket}
+use Rattle.meaning.specs.Shapes.{keep, isComplement, literalKind, others, complements, movedLeft, movedRight, bracket, listsInit}
 use Rattle.kinds.specs.declared.Flags.{Flags}
 use Rattle.kinds.specs.Summary.{clausesBy, statesBy, pairBy}
 use Rattle.trees.proofs.TreeLaws.{keep-short}
@@ -87,7 +87,7 @@ module _ (f : File) (a b : ℕ) where
         keep-short (isComplement f) (a ∷ []),
       )
 
-  pub pair-anchor : T (member 3 (movedLeft f (pairSides f a b) ++ bracket f (pairSides f a b))) → T (hit (movedLeft f (pairSides f a b)))
+  pub pair-anchor : T (member 3 (movedLeft f (pairSides f a b) ++ bracket f (pairSides f a b))) → T (hit (listsInit f) (movedLeft f (pairSides f a b)))
   unfolding bracket hit
   pair-anchor t =
       let w = movedLeft f (pairSides f a b) in

@@ -9,7 +9,7 @@ use lib.ListN.{length, getD}
 use lib.Dec.{T, eqb}
 use Rattle.task.specs.Reach.{member}
 use Rattle.meaning.specs.File.{File}
-use Rattle.meaning.specs.Shapes.{kindAt, isBasic}
+use Rattle.meaning.specs.Shapes.{kindAt, isBasic, listsInit}
 use Rattle.task.specs.declared.Action.{Action}
 use Rattle.task.specs.Inner.{noAction}
 use Rattle.counterexample.specs.Counter.{Asked, ActionsOf, leftLeaves, rightLeaves}
@@ -77,6 +77,6 @@ pub record Gathers (f : File) (index : List ℕ) (rule a b : ℕ) (left right : 
       × (T (member 4 (kindsOf f (leftOf f rule a b))) → T (member 5 (kindsOf f (leftOf f rule a b))) → ⊥)
   -- where one is: a left leaf whose states are listed and that is asked about the state before the action
   pub anchored : r .listed ≡ true → (r .anchor < r .«left_count»)
-      × T (mayAnchor (leafIn left (r .anchor) .set)) × (leafIn left (r .anchor) .after ≡ false)
+      × T (mayAnchor (listsInit f) (leafIn left (r .anchor) .set)) × (leafIn left (r .anchor) .after ≡ false)
   pub basic-left : AllBasic f (leftOf f rule a b)
   pub basic-right : AllBasic f (rightOf f rule a b)

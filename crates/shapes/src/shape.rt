@@ -10,6 +10,7 @@ use parts::parts_of;
 ghost use mathlib.Core.Path.{_≡_};
 ghost use Prim.Native.Nat.{_≤_};
 ghost use mathlib.Core.Bool.{true, false};
+ghost use Rattle.meaning.specs.Shapes.{listsInit};
 ghost use Rattle.certificate.specs.Known.{Known, decoded};
 ghost use Rattle.parts.specs.Written.{shapeOf};
 ghost use Rattle.shapes.specs.Gathered.{Gathers};
@@ -57,17 +58,19 @@ fn refused() -> Gathered
     }
 }
 
-// Gathers the leaves of a statement by rule 1 to 4 into two arrays, and tells whether its shape is permitted.
+// Gathers the leaves of a statement by rule 1 to 4 into two arrays, and tells whether its shape is permitted, where kind 1 lists its states
+// or not.
 pub fn gather(
     file: &[u8],
     index: &Index,
+    few: bool,
     rule: u8,
     a: u16,
     b: u16,
     left: &mut [u64; 24],
     right: &mut [u64; 16],
 ) -> Gathered
-    requires { ⌜ Known (now file) (now index) ⌝ }
+    requires { ⌜ Known (now file) (now index) × (few ≡ listsInit (decoded (now file))) ⌝ }
     requires { ⌜ (1 ≤ rule) × (rule ≤ 4) ⌝ }
     requires { ⌜ Zeros (now right) ⌝ }
     ensures shape { λ r. ⌜ r .permitted ≡ shapeOf (decoded (now (file .entry))) rule a b ⌝ }
@@ -78,7 +81,7 @@ pub fn gather(
     if p.ok {
         if literals(file, index, p) {
             let n = fill(file, index, rule == 2, p, left, right);
-            summary(rule, left, right, n, p.actions)
+            summary(few, rule, left, right, n, p.actions)
         } else {
             refused()
         }

@@ -13,10 +13,10 @@ use Rattle.kinds.proofs.anchor_in.Statement.{statement}
 use Rattle.kinds.proofs.anchor_in.Tie as tie
 
 abbrev Inv-loop : tie.InvT-loop
-Inv-loop left from to j₀ j = (from ≤ j) × (j ≤ to) × NoAnchor left from j
+Inv-loop few left from to j₀ j = (from ≤ j) × (j ≤ to) × NoAnchor few left from j
 
 abbrev μ-loop : tie.MeasureT-loop
-μ-loop left from to j₀ j = to - j
+μ-loop few left from to j₀ j = to - j
 
 loop-holds : tie.Need-loop-holds Inv-loop μ-loop
 loop-holds c = (omega arith, c .pre .0, λ j l g. absurd (omega arith))
@@ -24,8 +24,8 @@ loop-holds c = (omega arith, c .pre .0, λ j l g. absurd (omega arith))
 -- whether the leaf that was looked at may be the anchor
 tested : (c : tie.After-may-anchor Inv-loop μ-loop)
     → let l = c .before .before .before .before in
-    c .may-anchor .result ≡ mayAnchor (leafIn (l .before .args .left .now) (l .loop .j) .set)
-tested c = c .may-anchor .ensures ∙ ap (λ (x : Leaf). mayAnchor (x .set)) (c .before .leaf-at .ensures)
+    c .may-anchor .result ≡ mayAnchor (l .before .args .few) (leafIn (l .before .args .left .now) (l .loop .j) .set)
+tested c = c .may-anchor .ensures ∙ ap (λ (x : Leaf). mayAnchor (c .before .before .before .before .before .args .few) (x .set)) (c .before .leaf-at .ensures)
 
 returns : tie.Need-returns Inv-loop μ-loop
 returns c =
@@ -37,7 +37,7 @@ loop-again : tie.Need-loop-again Inv-loop μ-loop
 loop-again c =
     let t = c .before in
     let l = t .before .before .before .before in
-    (omega arith, omega arith, anchor-next (l .before .args .left .now) _ _ (l .loop .inv .2) (sym (tested t) ∙ c .if1 .left))
+    (omega arith, omega arith, anchor-next (l .before .args .few) (l .before .args .left .now) _ _ (l .loop .inv .2) (sym (tested t) ∙ c .if1 .left))
 
 returns-2 : tie.Need-returns-2 Inv-loop μ-loop
 returns-2 c = let v = c .before .loop .inv in record { after = v .0; within = v .1; here = λ l. absurd (omega arith); first = v .2 }

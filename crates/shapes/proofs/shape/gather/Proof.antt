@@ -9,12 +9,12 @@ use Rattle.shapes.proofs.shape.gather.Statement.{statement}
 use Rattle.shapes.proofs.shape.gather.Tie as tie
 
 literals-requires : tie.Need-literals-requires
-literals-requires c κs = (c .before .before .before .pre .0, c .before .parts-of .ensures .good (c .if1 .taken) .sound)
+literals-requires c κs = (c .before .before .before .pre .0 .0, c .before .parts-of .ensures .good (c .if1 .taken) .sound)
 
 fill-requires : tie.Need-fill-requires
 fill-requires c κs =
     let d = c .before .before .before in
-    (d .before .before .before .before .pre .0, d .before .before .parts-of .ensures .good (d .before .if1 .taken) .sound)
+    (d .before .before .before .before .pre .0 .0, d .before .before .parts-of .ensures .good (d .before .if1 .taken) .sound)
 
 returns : tie.Need-returns
 returns c =
@@ -23,9 +23,10 @@ returns c =
     let s = l .before .before .before .before in
     let part = l .before .before .parts-of .ensures in
     let ok = l .before .if1 .taken in
+    let sum = rw (s .pre .0 .1) at (c .summary .ensures) in
     let t = sym (l .literals .ensures) ∙ d .before .before .before .if2 .taken in (
-      shape-right _ _ _ _ _ _ part ok t _ _ _ _ _ (d .fill .ensures) (s .pre .1 .1) _ (c .summary .ensures),
-      gathered-right _ _ _ _ _ _ part ok t _ _ _ _ _ (d .fill .ensures) (s .pre .1 .1) _ (c .summary .ensures),
+      shape-right _ _ _ _ _ _ part ok t _ _ _ _ _ (d .fill .ensures) (s .pre .1 .1) _ sum,
+      gathered-right _ _ _ _ _ _ part ok t _ _ _ _ _ (d .fill .ensures) (s .pre .1 .1) _ sum,
     )
 
 returns-2 : tie.Need-returns-2
