@@ -15,7 +15,7 @@ use Rattle.leaves.specs.Holds.{statesAt}
 -- a set that lists its states, all of them states of the task
 abbrev pub ListsStates : List ℕ → Ends → BasicEntry → Type 0
 ListsStates bytes ends Empty = Unit {0}
-ListsStates bytes ends Init = ends .init < 2 ^ ends .facts
+ListsStates bytes ends Init = (ends .init < 2 ^ ends .facts) × (ends .unknown < 2 ^ ends .facts)
 ListsStates bytes ends Goal = ⊥
 ListsStates bytes ends (Explicit x) = (v : ℕ) → T (member v (statesAt bytes (x .at) (x .count))) → v < 2 ^ ends .facts
 ListsStates bytes ends (Horn x) = ⊥
