@@ -75,7 +75,7 @@ module _ {bytes index : List ℕ} {x : Span} (o : InOrder bytes index x) {n : �
       let b = o .ascend k (x .count - 1) (omega arith) (omega arith) in
       omega arith
 
-  -- so each is the state of a number up to its
+  -- so each has a number n - d
   up-to-last : (k : ℕ) → k < x .count → (d : ℕ) × (d ≤ n) × (stateIn bytes index x k ≡ stateIn bytes index x (n - d))
   up-to-last k l =
       elim (decLt n k) [
@@ -118,7 +118,7 @@ module _ (bytes index : List ℕ) (t : Tried) (d : ℕ) where
   state-listed e = rw e refl
 
 module _ (bytes index : List ℕ) (ends : Ends) (t : Tried) where
-  -- a state to try is one of the set and one of the task
+  -- s is a state of the set and one of the task
   abbrev Good : BasicEntry → ℕ → Type 0
   Good set s = T (setHolds bytes ends set s) × (s < 2 ^ ends .facts)
 
@@ -178,7 +178,7 @@ module _ (bytes index : List ℕ) (ends : Ends) (t : Tried) where
           q ∙ r ∙ sym (number-listed d),
         )
 
-  -- the same for the set of any anchor
+  -- for the set of any anchor: each state to try is one of it, and each of its states is tried
   pub tried-good : (set : BasicEntry) → Orderly bytes index set → ListsStates bytes ends set → TriedOf index ends set t → t .some ≡ true
       → (d : ℕ) → Step t d → Good set (stateOf bytes index t d)
   tried-good Empty o l h e = absurd (true≢false (sym e ∙ h))

@@ -180,14 +180,15 @@ fn states_to_try(index: &Index, ends: Ends, set: BasicEntry, rows: bool) -> Trie
         top: 0,
         mask: 0,
     };
+    let unknown = ends.unknown;
     match set {
         BasicEntry::Empty => none,
         BasicEntry::Init => Tried {
             some: true,
             initial: true,
             listed: Span { at: 0, count: 0 },
-            top: ends.init | ends.unknown,
-            mask: ends.unknown,
+            top: ends.init | unknown,
+            mask: unknown,
         },
         BasicEntry::Goal => none,
         BasicEntry::Explicit(x) => Tried {
