@@ -7,8 +7,8 @@ use certificate::ActionEntry;
 use certificate::Index;
 use certificate::Span;
 use certificate::views::action_in;
-use lookup::action_count;
 use lookup::action_set;
+use lookup::actions;
 ghost use mathlib.Core.Path.{_≡_};
 ghost use mathlib.Core.Bool.{_||_};
 ghost use Prim.Native.Nat.{_+_, _≤_, _<_};
@@ -73,7 +73,7 @@ fn look(file: &[u8], index: &Index, e: u16, search: Search, a: u16) -> Search
     }
     match action_set(file, index, e) {
         ActionEntry::All => {
-            let more = united(found, first_marks(action_count(file)));
+            let more = united(found, first_marks(actions(file).count));
             Search {
                 wanted,
                 found: more,

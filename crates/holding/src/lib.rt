@@ -4,7 +4,7 @@ use actions::marks::is_marked;
 use certificate::Index;
 use certificate::StateEntry;
 use lookup::action;
-use lookup::action_count;
+use lookup::actions;
 use lookup::state_set;
 use membership::set_holds;
 use task::Ends;
@@ -26,10 +26,11 @@ fn try_each_action(file: &[u8], index: &Index, ends: Ends, e: u16, a: u16, s: u6
     ensures { λ r. ⌜ r ≡ regressed (decoded (now (file .entry)) .task) (inSet (decoded (now (file .entry))) e) (inActions (decoded (now (file .entry))) a) s ⌝ }
 {
     let marks = action_marks(file, index, a);
-    let count = action_count(file);
+    let all = actions(file);
+    let count = all.count;
     let mut i = 0u16;
     while i < count {
-        let act = action(file, i);
+        let act = action(file, all, i);
         if is_marked(marks, i) & applies(act, s) {
             if member(file, index, ends, e, after(act, s)) {
                 return true;

@@ -7,7 +7,7 @@ use clauses::refuted;
 use kinds::Gathered;
 use listed::shown;
 use lookup::action;
-use lookup::action_count;
+use lookup::actions;
 use shapes::shape::gather;
 use task::Action;
 use task::Ends;
@@ -69,11 +69,12 @@ fn some_refutes(
     ensures { λ r. ⌜ T r ↔ SomeCountered (now (file .entry)) ends (now (left .entry)) (now (right .entry)) g ⌝ }
 {
     let marks = action_marks(file, index, g.actions);
-    let count = action_count(file);
+    let all = actions(file);
+    let count = all.count;
     let mut i = 0u16;
     while i < count {
         if is_marked(marks, i) {
-            let a = action(file, i);
+            let a = action(file, all, i);
             if one_refutes(file, index, ends, left, right, g, a) {
                 return true;
             }

@@ -143,7 +143,14 @@ fn permits(rule: u8, x: Flags, right: u32, anchored: bool) -> bool
 }
 
 // What the arrays tell of a statement, where the initial states are few or not.
-pub fn summary(few: bool, rule: u8, left: &[u64; 24], right: &[u64; 16], n: Counts, actions: u16) -> Gathered
+pub fn summary(
+    few: bool,
+    rule: u8,
+    left: &[u64; 24],
+    right: &[u64; 16],
+    n: Counts,
+    actions: u16,
+) -> Gathered
     requires { ⌜ (n .outside ≤ n .left) × (n .left ≤ 24) × (n .right ≤ 16) ⌝ }
     ensures { λ r. ⌜ Summary few rule (now (left .entry)) (now (right .entry)) n actions r ⌝ }
 {

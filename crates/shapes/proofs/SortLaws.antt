@@ -91,4 +91,4 @@ module _ (f : File) (a b : ℕ) where
   unfolding bracket hit
   pair-anchor t =
       let w = movedLeft f (pairSides f a b) in
-      or-right (member 0 w || member 1 w) (member 3 w) (subst (λ (ks : List ℕ). T (member 3 ks)) (append-nil w) t)
+      or-right (member 0 w || (member 1 w && listsInit f)) (member 3 w) (subst (λ (ks : List ℕ). T (member 3 ks)) (append-nil w) t)
