@@ -53,7 +53,7 @@ impl Conditions {
             match set {
                 StateSet::Init => {
                     all.on |= file.task.init;
-                    all.off |= file.task.all_facts() & !file.task.init;
+                    all.off |= file.task.init_off();
                 }
                 StateSet::Goal => all.on |= file.task.goal,
                 StateSet::Horn(span) | StateSet::TwoCnf(span) => {
@@ -73,10 +73,7 @@ fn right_clauses(task: &Task, file: &File, set: StateSet) -> Vec<Clause> {
     let on = |bit| Clause { positive: bit, negative: 0 };
     let off = |bit| Clause { positive: 0, negative: bit };
     match set {
-        StateSet::Init => {
-            let not_init = task.all_facts() & !task.init;
-            facts(task.init).map(on).chain(facts(not_init).map(off)).collect()
-        }
+        StateSet::Init => facts(task.init).map(on).chain(facts(task.init_off()).map(off)).collect(),
         StateSet::Goal => facts(task.goal).map(on).collect(),
         StateSet::Horn(span) | StateSet::TwoCnf(span) => span.of(&file.clauses).to_vec(),
         _ => Vec::new(),

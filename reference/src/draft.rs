@@ -4,6 +4,7 @@
 
 use crate::file::{marked_actions, ActionSetKind, Clause, File, StateSet, Step};
 use crate::task::Action;
+use crate::version::Places;
 
 #[derive(Clone, Debug, PartialEq, Eq)]
 pub enum DraftActions {
@@ -32,6 +33,8 @@ pub struct Draft {
     pub version: u8,
     pub facts: u8,
     pub init: u64,
+    /// Written only where the version has such a mask.
+    pub unknown: u64,
     pub goal: u64,
     pub actions: Vec<Action>,
     pub action_sets: Vec<DraftActions>,
@@ -45,6 +48,7 @@ impl Default for Draft {
             version: 1,
             facts: 1,
             init: 0,
+            unknown: 0,
             goal: 0,
             actions: Vec::new(),
             action_sets: Vec::new(),
@@ -108,6 +112,9 @@ impl Draft {
     pub fn encode(&self) -> Vec<u8> {
         let mut bytes = vec![0, 0, 0, 0, self.version, self.facts];
         bytes.extend(self.init.to_be_bytes());
+        if Places::of(self.version).unknown.is_some() {
+            bytes.extend(self.unknown.to_be_bytes());
+        }
         bytes.extend(self.goal.to_be_bytes());
         put_count(&mut bytes, self.actions.len());
         for action in &self.actions {
@@ -133,9 +140,10 @@ impl Draft {
     /// The open form of a decoded file.
     pub fn of(file: &File) -> Draft {
         Draft {
-            version: 1,
+            version: file.task.version,
             facts: file.task.facts,
             init: file.task.init,
+            unknown: file.task.unknown,
             goal: file.task.goal,
             actions: file.task.actions.clone(),
             action_sets: file.action_sets.iter().map(|set| open_actions(set.kind, set.marks)).collect(),

@@ -1,5 +1,5 @@
 //! Truth of statements with a listed set: go through the states of the smallest listed
-//! leaf, each once, and look for a counterexample.
+//! leaf, each once and ascending, and look for a counterexample.
 
 use crate::file::{marked_actions, File, StateSet};
 use crate::shape::{is_listed, Bracket, Leaves, Statement};
@@ -7,39 +7,45 @@ use crate::task::{Action, State};
 
 /// Whether the statement holds over all states.
 pub fn holds(file: &File, st: &Statement) -> bool {
+    let listing = match st.bracket {
+        Bracket::Progression(_) => &st.inside,
+        _ => &st.left,
+    };
+    match smallest(file, listing) {
+        StateSet::Init => holds_from(file, st, file.task.inits()),
+        StateSet::Explicit(states) => holds_from(file, st, file.ascending(states).iter().copied()),
+        _ => true,
+    }
+}
+
+/// Whether no counterexample begins with one of these states, which are those of a leaf.
+fn holds_from(file: &File, st: &Statement, states: impl Iterator<Item = State> + Clone) -> bool {
     match st.bracket {
-        Bracket::None => listing(file, &st.left).iter().all(|&s| !outside(file, st, s)),
+        Bracket::None => !leads_outside(file, st, &Action::NOTHING, states),
         Bracket::Progression(marks) => {
-            let actions = chosen(file, marks);
-            let states = listing(file, &st.inside);
-            let others = more_than_one(&st.inside);
-            let within = |s: &&State| !others || in_all(file, &st.inside, **s);
-            actions.iter().all(|a| !leads_outside(file, st, a, states.iter().filter(within)))
+            let others = st.inside.all().len() > 1;
+            let within = |s: &State| !others || in_all(file, &st.inside, *s);
+            chosen(file, marks).iter().all(|a| !leads_outside(file, st, a, states.clone().filter(within)))
         }
         Bracket::Regression(marks) => {
             let actions = chosen(file, marks);
             let leads_in =
                 |s: State| actions.iter().any(|a| a.applies(s) && in_all(file, &st.inside, a.after(s)));
-            listing(file, &st.left).iter().all(|&s| !outside(file, st, s) || !leads_in(s))
+            { states }.all(|s| !outside(file, st, s) || !leads_in(s))
         }
     }
 }
 
 /// Whether the action leads from one of the states to a counterexample. Where a state goes
 /// to is looked for next to where the one before it went.
-fn leads_outside<'a>(
-    file: &File,
-    st: &Statement,
-    a: &Action,
-    states: impl Iterator<Item = &'a State>,
-) -> bool {
+fn leads_outside(file: &File, st: &Statement, a: &Action, states: impl Iterator<Item = State>) -> bool {
     let mut near = 0;
     let listed = match st.right.all().first() {
         Some(StateSet::Explicit(states)) => file.ascending(*states),
         _ => &[],
     };
-    states.filter(|s| a.applies(**s)).any(|s| {
-        let t = a.after(*s);
+    states.filter(|s| a.applies(*s)).any(|s| {
+        let t = a.after(s);
         match find(listed, near, t) {
             Some(k) => {
                 near = k + 1;
@@ -76,10 +82,6 @@ fn chosen(file: &File, marks: crate::file::Marks) -> Vec<Action> {
     marked_actions(marks).map(|a| file.task.actions[a]).collect()
 }
 
-fn more_than_one(leaves: &Leaves) -> bool {
-    leaves.all().len() > 1
-}
-
 fn in_all(file: &File, leaves: &Leaves, state: State) -> bool {
     leaves.all().iter().all(|&set| file.base_holds(set, state))
 }
@@ -89,13 +91,13 @@ fn outside(file: &File, st: &Statement, state: State) -> bool {
     in_all(file, &st.left, state) && !st.right.all().iter().any(|&set| file.base_holds(set, state))
 }
 
-/// The states of the smallest leaf of kind 0, 1 or 3; the shape says there is one.
-fn listing<'a>(file: &'a File, leaves: &Leaves) -> &'a [State] {
-    let states = |set: &StateSet| match set {
-        StateSet::Init => std::slice::from_ref(&file.task.init),
-        StateSet::Explicit(states) => file.ascending(*states),
-        _ => &[],
+/// The leaf with the fewest states among those that give them one by one; the shape says there is one.
+fn smallest(file: &File, leaves: &Leaves) -> StateSet {
+    let count = |set: &StateSet| match set {
+        StateSet::Init => 1 << file.task.unknown.count_ones(),
+        StateSet::Explicit(states) => file.ascending(*states).len(),
+        _ => 0,
     };
-    let listed = leaves.all().iter().filter(|set| is_listed(set)).map(states);
-    listed.min_by_key(|list| list.len()).unwrap_or(&[])
+    let listed = leaves.all().iter().filter(|set| is_listed(&file.task, set));
+    listed.min_by_key(|set| count(set)).copied().unwrap_or(StateSet::Empty)
 }

@@ -20,7 +20,7 @@ pub enum Group {
     StateSet,
 }
 
-/// The part of the file that a layout fault (1 to 7, 19) is about.
+/// The part of the file that a layout fault (1 to 7, 16, 19) is about.
 #[derive(Clone, Copy, Debug, PartialEq, Eq)]
 pub enum Item {
     /// The file as a whole, for replies 1 and 19.

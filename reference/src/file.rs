@@ -180,7 +180,7 @@ impl File {
     #[inline]
     pub fn base_holds(&self, set: StateSet, state: State) -> bool {
         match set {
-            StateSet::Init => state == self.task.init,
+            StateSet::Init => self.task.is_init(state),
             StateSet::Goal => self.task.is_goal(state),
             StateSet::Explicit(listed) => self.ascending(listed).binary_search(&state).is_ok(),
             StateSet::Horn(span) | StateSet::TwoCnf(span) => {

@@ -1,10 +1,11 @@
 //! Reads the bytes of a file front to back and finds the faults of its layout,
-//! replies 1 to 7, and 19 where it is held to small limits. At each item: past the end (3), then range (2, 4), then 19,
-//! then 5, 6, 7.
+//! replies 1 to 7 and 16, and 19 where it is held to small limits. At each item: past the end (3), then range (2, 4), then 19,
+//! then 5, 16, 6, 7.
 
 use crate::fault::{Fault, Group, Item};
 use crate::file::{mark, ActionSet, ActionSetKind, Clause, File, Listed, Span, StateSet, Step};
 use crate::task::Action;
+use crate::version::{Places, VERSIONS};
 
 pub const MAX_BYTES: usize = 65_536;
 pub const MAX_ACTIONS: usize = 256;
@@ -127,9 +128,11 @@ impl<'a> Reader<'a> {
     }
 
     fn task(&mut self) -> Read<()> {
-        if self.byte(Item::Field("version"))? != 1 {
+        let version = self.byte(Item::Field("version"))?;
+        if !VERSIONS.contains(&version) {
             return Err(Fault::layout(2, 4, Item::Field("version")));
         }
+        self.file.task.version = version;
         let facts = self.byte(Item::Field("fact count"))?;
         if facts == 0 || facts > 64 {
             return Err(Fault::layout(4, 5, Item::Field("fact count")));
@@ -137,6 +140,9 @@ impl<'a> Reader<'a> {
         self.file.task.facts = facts;
         self.barred = !self.file.task.all_facts();
         self.file.task.init = self.mask(Item::Field("init"))?;
+        if Places::of(version).unknown.is_some() {
+            self.file.task.unknown = self.unknown()?;
+        }
         self.file.task.goal = self.mask(Item::Field("goal"))?;
         let count = self.count("action count", 0, MAX_ACTIONS)?;
         for a in 0..count as u16 {
@@ -146,6 +152,16 @@ impl<'a> Reader<'a> {
             self.file.task.actions.push(Action { pre, add, del });
         }
         Ok(())
+    }
+
+    /// The mask of unknown facts: none of them is on in init (16).
+    fn unknown(&mut self) -> Read<u64> {
+        let (place, item) = (self.at, Item::Field("unknown mask"));
+        let unknown = self.mask(item)?;
+        if unknown & self.file.task.init != 0 {
+            return Err(Fault::layout(16, place, item));
+        }
+        Ok(unknown)
     }
 
     /// An entry's kind and body; the kind is below `kinds` and the length fits it.

@@ -25,6 +25,7 @@ pub mod shape;
 pub mod show;
 pub mod steps;
 pub mod task;
+pub mod version;
 pub mod words;
 
 use std::fmt;

@@ -12,6 +12,8 @@ use reference::generate::random::Random;
 use reference::generate::relisted::{alike, relisted};
 use reference::generate::rounds::rounds;
 use reference::generate::small::small;
+use reference::generate::twins::{twinned, twins};
+use reference::generate::unknown::unknown;
 use reference::generate::{cases, damaged, Case};
 use reference::names::Names;
 use reference::{
@@ -20,8 +22,8 @@ use reference::{
 };
 
 const USAGE: &str = "usage: reference check [--numbers LIST | --small] FILE | round FILE FROM COUNT | ask FILE ENTRY STATE | gen SEED COUNT | \
-numbered SEED COUNT | rounds SEED COUNT | small SEED COUNT | listed SEED COUNT | relisted SEED COUNT | damaged FILE SEED COUNT | \
-replies | records | alike CASES REPLIES | assemble TEXTFILE | names TEXTFILE | show [--numbers LIST] FILE [NAMES] | \
+numbered SEED COUNT | rounds SEED COUNT | small SEED COUNT | listed SEED COUNT | unknown SEED COUNT | relisted SEED COUNT | \
+twins SEED COUNT | damaged FILE SEED COUNT | replies | records | alike CASES REPLIES | twinned CASES REPLIES | assemble TEXTFILE | names TEXTFILE | show [--numbers LIST] FILE [NAMES] | \
 explain [--numbers LIST | --small] FILE [NAMES] | draw FILE [table|steps] [NAMES] | cost FILE | renumber LIST FILE | workload NUMBER SEED   \
 (FILE may be - for standard input; LIST is numbers with commas or spaces between, or a file of bytes)";
 
@@ -115,6 +117,8 @@ fn run(words: &[&str]) -> Result<(), Stop> {
         ["rounds", seed, count] => write_lines(&mut out, rounds(number(seed)?, number(count)?))?,
         ["small", seed, count] => write_lines(&mut out, small(number(seed)?, number(count)?))?,
         ["listed", seed, count] => write_lines(&mut out, listed(number(seed)?, number(count)?))?,
+        ["unknown", seed, count] => write_lines(&mut out, unknown(number(seed)?, number(count)?))?,
+        ["twins", seed, count] => write_lines(&mut out, twins(number(seed)?, number(count)?))?,
         ["relisted", seed, count] => write_lines(&mut out, relisted(number(seed)?, number(count)?))?,
         ["damaged", file, seed, count] => {
             write_lines(&mut out, damaged(&read(file)?, number(seed)?, number(count)?))?;
@@ -129,7 +133,14 @@ fn run(words: &[&str]) -> Result<(), Stop> {
                 out.write_all(&case?.record())?;
             }
         }
-        ["alike", cases, replies] => compare_pairs(&read(cases)?, &read_text(replies)?)?,
+        ["alike", cases, replies] => {
+            let differ = "their files differ in the order of listed states alone";
+            compare_pairs(&read(cases)?, &read_text(replies)?, alike, differ)?;
+        }
+        ["twinned", cases, replies] => {
+            let differ = "the second file is to be the first in version 2, with no unknown fact";
+            compare_pairs(&read(cases)?, &read_text(replies)?, twinned, differ)?;
+        }
         ["assemble", file] => {
             out.write_all(&assemble::assemble(&read_text(file)?).map_err(Stop::Message)?)?;
         }
@@ -278,8 +289,13 @@ fn cases_of(lines: impl BufRead) -> impl Iterator<Item = Result<Case, Stop>> {
     })
 }
 
-/// Each two cases are a pair that `relisted` wrote; the first one whose replies are not alike is told.
-fn compare_pairs(cases: &[u8], replies: &str) -> Result<(), Stop> {
+/// Each two cases are a pair that `relisted` or `twins` wrote; the first one whose replies do not fit is told.
+fn compare_pairs(
+    cases: &[u8],
+    replies: &str,
+    fit: fn([&Case; 2], [&str; 2]) -> bool,
+    differ: &str,
+) -> Result<(), Stop> {
     let cases = cases_of(cases).collect::<Result<Vec<Case>, Stop>>()?;
     let replies: Vec<&str> = replies.lines().collect();
     if cases.len() != replies.len() || cases.len() % 2 != 0 {
@@ -288,9 +304,8 @@ fn compare_pairs(cases: &[u8], replies: &str) -> Result<(), Stop> {
     }
     for (k, (pair, said)) in cases.chunks_exact(2).zip(replies.chunks_exact(2)).enumerate() {
         let [first, second] = [said[0], said[1]];
-        if !alike([&pair[0], &pair[1]], [first, second]) {
+        if !fit([&pair[0], &pair[1]], [first, second]) {
             let lines = format!("lines {} and {}", 2 * k + 1, 2 * k + 2);
-            let differ = "their files differ in the order of listed states alone";
             return Err(Stop::Message(format!("{lines}: '{first}' and '{second}', where {differ}")));
         }
     }

@@ -4,9 +4,13 @@
 
 use crate::fault::StepCause;
 use crate::file::{File, Marks, StateSet, Step};
+use crate::task::Task;
 
 /// Each side has at most this many leaves, as written.
 const MAX_LEAVES: usize = 8;
+
+/// With more unknown facts the initial states are too many to go through.
+pub const MAX_UNKNOWN: u32 = 12;
 
 type Shaped<T> = Result<T, StepCause>;
 
@@ -91,7 +95,7 @@ pub fn of(file: &File, step: &Step) -> Shaped<Statement> {
         }
     }
     st.method = method(&st)?;
-    permitted(&st)?;
+    permitted(&file.task, &st)?;
     Ok(st)
 }
 
@@ -206,14 +210,18 @@ fn method(st: &Statement) -> Shaped<Method> {
     Ok(found.unwrap_or(Method::Horn))
 }
 
-/// Whether the set gives its states one by one: kinds 0, 1 and 3.
-pub fn is_listed(set: &StateSet) -> bool {
-    matches!(set, StateSet::Empty | StateSet::Init | StateSet::Explicit(_))
+/// Whether the set gives its states one by one: kinds 0 and 3, and kind 1 with few unknown facts.
+pub fn is_listed(task: &Task, set: &StateSet) -> bool {
+    match set {
+        StateSet::Empty | StateSet::Explicit(_) => true,
+        StateSet::Init => task.unknown.count_ones() <= MAX_UNKNOWN,
+        _ => false,
+    }
 }
 
 /// Clauses: at most two right leaves besides kind 0. Explicit: a listed leaf on the
 /// left, for B2 inside the bracket.
-fn permitted(st: &Statement) -> Shaped<()> {
+fn permitted(task: &Task, st: &Statement) -> Shaped<()> {
     if st.method != Method::Explicit {
         let right = st.right.all().iter().filter(|set| **set != StateSet::Empty).count();
         return if right <= 2 { Ok(()) } else { refuse("more than two leaves on the moved right") };
@@ -222,11 +230,13 @@ fn permitted(st: &Statement) -> Shaped<()> {
         Bracket::Progression(_) => &st.inside,
         _ => &st.left,
     };
-    if listing.all().iter().any(is_listed) {
-        Ok(())
-    } else {
-        refuse("no leaf of kind 0, 1 or 3 where it must stand")
+    if listing.all().iter().any(|set| is_listed(task, set)) {
+        return Ok(());
     }
+    refuse(match listing.all().contains(&StateSet::Init) {
+        true => "more than 12 facts are unknown, and no leaf of kind 0 or 3 stands where one must",
+        false => "no leaf of kind 0, 1 or 3 where it must stand",
+    })
 }
 
 /// B4: two literals of different kinds among 3, 4 and 5.

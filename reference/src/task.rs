@@ -28,13 +28,24 @@ impl Action {
     }
 }
 
-#[derive(Clone, Debug, Default, PartialEq, Eq)]
+#[derive(Clone, Debug, PartialEq, Eq)]
 pub struct Task {
+    /// The version of the file that it stands in.
+    pub version: u8,
     /// The number n of facts, 1 to 64.
     pub facts: u8,
+    /// The facts that are on in every initial state.
     pub init: State,
+    /// The facts that may be on or off in an initial state (document 02, d); init has none of them, and version 1 has none at all.
+    pub unknown: u64,
     pub goal: u64,
     pub actions: Vec<Action>,
+}
+
+impl Default for Task {
+    fn default() -> Task {
+        Task { version: 1, facts: 0, init: 0, unknown: 0, goal: 0, actions: Vec::new() }
+    }
 }
 
 impl Task {
@@ -47,6 +58,45 @@ impl Task {
     #[inline]
     pub fn is_goal(&self, state: State) -> bool {
         state & self.goal == self.goal
+    }
+
+    /// Whether the state agrees with init on all known facts.
+    #[inline]
+    pub fn is_init(&self, state: State) -> bool {
+        state & !self.unknown == self.init
+    }
+
+    /// The facts that are off in every initial state.
+    #[inline]
+    pub fn init_off(&self) -> u64 {
+        self.all_facts() & !self.init & !self.unknown
+    }
+
+    /// The initial states, ascending.
+    #[inline]
+    pub fn inits(&self) -> Inits {
+        Inits { init: self.init, unknown: self.unknown, next: Some(0) }
+    }
+}
+
+/// The initial states one by one, none of them kept.
+#[derive(Clone, Debug)]
+pub struct Inits {
+    init: State,
+    unknown: u64,
+    /// The unknown facts that are on in the next state.
+    next: Option<u64>,
+}
+
+impl Iterator for Inits {
+    type Item = State;
+
+    /// Counts through the bits of the mask alone: the others are on for the carry to pass, and off in what is counted.
+    #[inline]
+    fn next(&mut self) -> Option<State> {
+        let on = self.next?;
+        self.next = (on != self.unknown).then(|| (on | !self.unknown).wrapping_add(1) & self.unknown);
+        Some(self.init | on)
     }
 }
 

@@ -46,12 +46,13 @@ fn layout(number: u8, item: Item) -> String {
     let named = name(item);
     match (number, item) {
         (1, _) => "the file is under 4 or over 65536 bytes, or its length field is wrong".into(),
-        (2, _) => "the version is not 1".into(),
+        (2, _) => "the version is neither 1 nor 2".into(),
         (3, Item::Rest) => "bytes are left over".into(),
         (3, _) => format!("{named} runs past the end"),
         (4, Item::EntryLength(..)) => format!("{named} does not fit its kind"),
         (4, _) => format!("{named} is out of range"),
         (5, _) => format!("{named} names a fact that the task does not have"),
+        (16, _) => format!("{named} names a fact that is on in init"),
         (6, Item::Part(_, _, "action", _)) => format!("{named} is not an action of the task"),
         (6, _) => format!("{named} does not name an entry allowed there"),
         (19, _) => format!("{named} is over the small limits"),

@@ -229,9 +229,9 @@ fn special(file: &File, leaf: &Leaf) -> Option<u8> {
     }
 }
 
-/// Whether a leaf gives its states one by one: kinds 0, 1 and 3.
+/// Whether a leaf gives its states one by one: kinds 0 and 3, and kind 1 with at most 12 unknown facts.
 pub fn is_listed(file: &File, leaf: &Leaf) -> bool {
-    crate::shape::is_listed(&file.state_sets[leaf.base as usize])
+    crate::shape::is_listed(&file.task, &file.state_sets[leaf.base as usize])
 }
 
 /// Which kinds may meet in B1 to B3, and where.

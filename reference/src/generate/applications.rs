@@ -287,14 +287,19 @@ pub fn basic(b: &mut Builder) -> (u8, Judgement) {
         let left = literal(b, &base, 40);
         return (4, Judgement::Within(left, literal(b, &base, 40)));
     }
+    (rule, over(b, &base, rule))
+}
+
+/// A statement of B1 to B3 over these sets.
+pub fn over(b: &mut Builder, base: &[u16], rule: u8) -> Judgement {
     let wide = b.random.chance(20);
-    let left = left_side(b, &base, rule, wide);
+    let left = left_side(b, base, rule, wide);
     let count = b.random.pick(if wide { &[1, 2, 7, 8, 9] } else { &[1, 1, 1, 2, 2, 3] });
     // Of many right leaves most are empty: only two others are allowed over clauses.
-    let leaf = |b: &mut Builder, k| if wide && k > 1 { EMPTY } else { literal(b, &base, 25) };
+    let leaf = |b: &mut Builder, k| if wide && k > 1 { EMPTY } else { literal(b, base, 25) };
     let right: Vec<u16> = (0..count).map(|k| leaf(b, k)).collect();
     let left = tree(b, &left, StateSet::Intersection);
-    (rule, Judgement::Within(left, tree(b, &right, StateSet::Union)))
+    Judgement::Within(left, tree(b, &right, StateSet::Union))
 }
 
 /// The leaves of a left side: literals and for B2 and B3 mostly one bracket.

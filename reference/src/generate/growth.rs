@@ -32,7 +32,7 @@ pub fn clauses(random: &mut Random, method: Method, count: usize, actions: usize
     clauses.extend(never.iter().map(|fact| Clause { positive: 0, negative: *fact }));
     shuffle(random, &mut clauses);
     let actions = (0..actions).map(|_| climbing(random, &facts[..row])).collect();
-    let task = Task { facts: 64, init: facts[0], goal: never[0], actions };
+    let task = Task { facts: 64, init: facts[0], goal: never[0], actions, ..Task::default() };
     let mut b = Builder::new(task, random);
     let s = b.clauses(kind(method), &clauses);
     let ending = by_pg(&mut b, s);

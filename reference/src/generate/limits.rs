@@ -24,7 +24,7 @@ pub fn random(random: &mut Random) -> Vec<u8> {
         3 => many_steps(over),
         4 => many_states(random, over),
         5 => many_clauses(over),
-        6 => full_file(over),
+        6 => filled(Draft { version: random.pick(&[1, 2]), ..sample() }, over),
         7 => all_facts(random),
         8 => deep_tree(random, over),
         9 => workload(random, 2).encode(),
@@ -104,7 +104,11 @@ fn many_clauses(over: usize) -> Vec<u8> {
 
 /// A file of exactly the greatest length, or one byte more.
 pub fn full_file(over: usize) -> Vec<u8> {
-    let mut d = sample();
+    filled(sample(), over)
+}
+
+/// The sample, of either version, filled up to that length.
+fn filled(mut d: Draft, over: usize) -> Vec<u8> {
     let mut rest = MAX_BYTES + over - d.encode().len();
     let clause = Clause { positive: 0, negative: 3 };
     while rest > 4200 {
@@ -229,7 +233,8 @@ impl Cube {
         actions: Vec<Action>,
         states: Vec<u64>,
     ) -> Draft {
-        let mut b = Builder::new(Task { facts: 64, init, goal: self.goal, actions }, random);
+        let mut b =
+            Builder::new(Task { facts: 64, init, goal: self.goal, actions, ..Task::default() }, random);
         let s = b.explicit(states);
         let ending = by_pg(&mut b, s);
         finish(&mut b, ending);
@@ -260,7 +265,7 @@ fn large_clauses(random: &mut Random, method: Method) -> Draft {
     };
     let mut clauses: Vec<Clause> = groups.iter().flat_map(pairs).collect();
     let (first, single) = (&groups[0], groups[7][0]);
-    let mut task = Task { facts: 64, init: first[0], goal: first[0] | first[1], actions: Vec::new() };
+    let mut task = Task { facts: 64, init: first[0], goal: first[0] | first[1], ..Task::default() };
     if !two {
         // The highest fact of a group follows from its neighbour anyway.
         let spare = pair(first[0], first[8]);

@@ -15,6 +15,8 @@ pub mod relisted;
 pub mod rounds;
 pub mod small;
 pub mod tasks;
+pub mod twins;
+pub mod unknown;
 pub mod worst;
 
 use crate::draft::Draft;

@@ -5,6 +5,7 @@ use crate::draft::{mend_length, Draft, DraftActions, DraftSet};
 use crate::file::{Clause, Step};
 use crate::generate::limits::shuffle;
 use crate::generate::random::Random;
+use crate::version::{Places, VERSIONS};
 
 /// Changes one thing in the draft.
 pub fn draft(random: &mut Random, d: &mut Draft) {
@@ -228,9 +229,10 @@ pub fn twin_of(random: &mut Random, d: &mut Draft, first: usize) -> usize {
 fn mask(random: &mut Random, d: &mut Draft) {
     let bit = 1u64 << random.below(d.facts as usize + 1).min(63);
     let actions = d.actions.len();
-    match random.below(5) {
+    match random.below(6) {
         0 => d.init ^= bit,
         1 => d.goal ^= bit,
+        2 if d.version == 2 => d.unknown ^= bit,
         _ if actions == 0 => (),
         _ => {
             let action = &mut d.actions[random.below(actions)];
@@ -244,8 +246,10 @@ fn mask(random: &mut Random, d: &mut Draft) {
 }
 
 fn head(random: &mut Random, d: &mut Draft) {
-    match random.below(9) {
-        0 | 8 => d.version = random.pick(&[0, 2, 255]),
+    match random.below(11) {
+        0 | 8 => d.version = random.pick(&[0, VERSIONS.end() + 1, 255]),
+        9 => d.version = random.pick(&[1, 2]),
+        10 => d.unknown = random.mask(d.unknown, 1),
         1 => d.facts = random.pick(&[0, 65, 255]),
         2 => d.facts = d.facts.wrapping_sub(1),
         3 => d.facts = (d.facts + 1).min(64),
@@ -258,8 +262,9 @@ fn head(random: &mut Random, d: &mut Draft) {
 
 /// The places and widths of counts, entry lengths and entry kinds in the draft's bytes.
 fn frame(d: &Draft, bytes: &[u8]) -> Vec<(usize, usize)> {
-    let mut places = vec![(22, 2)];
-    let mut at = 24 + 24 * d.actions.len();
+    let begun = Places::of(d.version);
+    let mut places = vec![(begun.action_count, 2)];
+    let mut at = begun.actions + begun.action * d.actions.len();
     for count in [d.action_sets.len(), d.state_sets.len()] {
         places.push((at, 2));
         at += 2;
@@ -273,18 +278,19 @@ fn frame(d: &Draft, bytes: &[u8]) -> Vec<(usize, usize)> {
     places
 }
 
-/// Cuts, extends or overwrites; the length field is mended in most cases.
+/// Cuts, extends or overwrites, or takes one version's bytes for another's; the length field is mended in most cases.
 pub fn bytes(random: &mut Random, d: &Draft) -> Vec<u8> {
     let mut bytes = d.encode();
     let length = bytes.len();
-    match random.below(8) {
-        0 | 1 => bytes.truncate(random.below(length)),
-        2 => bytes.extend((0..random.between(1, 14)).map(|k| k as u8)),
-        3 => {
+    match random.below(17) {
+        0..=3 => bytes.truncate(random.below(length)),
+        4 | 5 => bytes.extend((0..random.between(1, 14)).map(|k| k as u8)),
+        6 => bytes[4] = 3 - bytes[4].min(2),
+        7 | 8 => {
             let at = random.below(length);
             bytes[at] = random.next() as u8;
         }
-        4 => {
+        9 | 10 => {
             let at = random.below(length);
             let count = random.between(1, 3).min(length - at);
             bytes.drain(at..at + count);

@@ -9,6 +9,7 @@ use crate::generate::rounds::round_case;
 use crate::generate::small::small_case;
 use crate::generate::{case, Case};
 use crate::task::all_facts;
+use crate::version::Places;
 
 /// The cases of the first `count` pairs of a seed, one after the other.
 pub fn relisted(seed: u64, count: u64) -> impl Iterator<Item = Case> {
@@ -66,7 +67,8 @@ pub fn bodies(bytes: &[u8]) -> Vec<Range<usize>> {
 /// None where the bytes end before the last entry does.
 fn walk(bytes: &[u8], found: &mut Vec<Range<usize>>) -> Option<()> {
     let number = |at: usize| Some(u16::from_be_bytes(bytes.get(at..at + 2)?.try_into().ok()?) as usize);
-    let mut at = 24 + 24 * number(22)?;
+    let places = Places::in_bytes(bytes);
+    let mut at = places.actions + places.action * number(places.action_count)?;
     for are_states in [false, true] {
         let entries = number(at)?;
         at += 2;

@@ -10,6 +10,7 @@ use crate::generate::random::Random;
 use crate::generate::{certificate, mutate, plain_file, Call, Case};
 use crate::layout::{Limits, MAX_CLAUSES, MAX_STATE_SETS};
 use crate::task::Action;
+use crate::version::VERSIONS;
 
 const SMALL: Limits = Limits::SMALL;
 
@@ -85,6 +86,14 @@ pub(super) fn below(random: &mut Random, count: usize) -> Draft {
     let mut d = sample();
     d.facts = facts as u8;
     d.init = (random.below(count) as u64) << first;
+    if random.chance(30) {
+        // As many unknown facts as keep every initial state below the count.
+        d.version = 2;
+        d.unknown = random.mask(cube & !d.init, 2);
+        while (d.init | d.unknown) >> first >= count as u64 {
+            d.unknown &= !random.bit(d.unknown);
+        }
+    }
     d.goal = 1 << (facts - 1);
     d.actions = (0..random.between(1, 6)).map(|_| action(random)).collect();
     d.state_sets[3] = DraftSet::Explicit((0..count as u64).map(|state| state << first).collect());
@@ -183,7 +192,7 @@ fn spoil(random: &mut Random, d: &mut Draft) {
     let actions = d.actions.len() as u16;
     let set = random.below(d.state_sets.len());
     match random.below(11) {
-        0 => d.version = 2,
+        0 => d.version = VERSIONS.end() + 1,
         1 => d.facts = random.pick(&[0, 65]),
         2 => d.goal |= fact,
         3 => d.action_sets.push(DraftActions::List(vec![actions])),

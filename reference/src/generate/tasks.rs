@@ -23,13 +23,29 @@ pub fn action(random: &mut Random, facts: u64) -> Action {
     Action { pre: random.mask(facts, 2), add: random.mask(facts, 2), del: random.mask(facts, 1) }
 }
 
+/// A task without actions and goal: of version 2, with some of `open` unknown, in a third of the cases. `init` has none of
+/// these facts.
+fn begun(random: &mut Random, n: u8, init: State, open: u64, most: usize) -> Task {
+    let task = Task { facts: n, init, ..Task::default() };
+    if random.chance(65) {
+        return task;
+    }
+    let count = random.between(0, most);
+    Task { version: 2, unknown: some_facts(random, open, count), ..task }
+}
+
+/// So many facts of a mask, or all of them where it has fewer.
+pub fn some_facts(random: &mut Random, mask: u64, count: usize) -> u64 {
+    (0..count).fold(0, |chosen, _| chosen | random.bit(mask & !chosen))
+}
+
 /// A task with its states within reach, at most `limit`. The goal is out of reach where
 /// a few tries find such a mask.
 pub fn reachable(random: &mut Random, n: u8, limit: usize) -> (Task, BTreeSet<State>) {
     let facts = all_facts(n);
     let init = random.mask(facts, 1);
-    let mut task = Task { facts: n, init, goal: 0, actions: Vec::new() };
-    let mut states = BTreeSet::from([init]);
+    let mut task = begun(random, n, init, facts & !init, 4);
+    let mut states: BTreeSet<State> = task.inits().collect();
     for _ in 0..random.between(0, 6) {
         task.actions.push(action(random, facts));
         match explore(&task, limit) {
@@ -46,10 +62,10 @@ pub fn reachable(random: &mut Random, n: u8, limit: usize) -> (Task, BTreeSet<St
     (task, states)
 }
 
-/// The states within reach; none where there are more than `limit`.
+/// The states within reach of all initial states; none where there are more than `limit`.
 pub fn explore(task: &Task, limit: usize) -> Option<BTreeSet<State>> {
-    let mut states = BTreeSet::from([task.init]);
-    let mut open = vec![task.init];
+    let mut states: BTreeSet<State> = task.inits().take(limit + 1).collect();
+    let mut open: Vec<State> = states.iter().copied().collect();
     while let Some(state) = open.pop() {
         for action in task.actions.iter().filter(|a| a.applies(state)) {
             let next = action.after(state);
@@ -90,16 +106,23 @@ fn implied(left: &[Clause], pre: u64, clause: Clause, facts: u64) -> bool {
     !known.fail(clause) || !propagate_units(left, &mut known)
 }
 
-/// A task and clauses that hold in init, are kept by each action, and rule out the goal.
+/// Whether every initial state meets the clause.
+fn met_by_inits(task: &Task, clause: Clause) -> bool {
+    let (on, off) = (clause.positive & task.init, clause.negative & task.init_off());
+    on | off | clause.positive & clause.negative != 0
+}
+
+/// A task and clauses that hold in each initial state, are kept by each action, and rule out the goal.
 pub fn forward(random: &mut Random, n: u8, method: Method, sizes: (usize, usize)) -> (Task, Vec<Clause>) {
     let facts = all_facts(n);
     let lacking = 1u64 << random.below(n as usize);
     let init = random.mask(facts, 1) & !lacking;
     let goal = lacking | random.mask(facts, 2);
+    let task = begun(random, n, init, facts & !init & !lacking, 16);
     let mut clauses = vec![Clause { positive: 0, negative: lacking | random.bit(goal) }];
     for _ in 0..20 * sizes.0 {
         let next = clause(random, method, facts);
-        if clauses.len() < sizes.0 && next.met_by(init) && !clauses.contains(&next) {
+        if clauses.len() < sizes.0 && met_by_inits(&task, next) && !clauses.contains(&next) {
             clauses.push(next);
         }
     }
@@ -113,7 +136,7 @@ pub fn forward(random: &mut Random, n: u8, method: Method, sizes: (usize, usize)
             actions.push(next);
         }
     }
-    (Task { facts: n, init, goal, actions }, clauses)
+    (Task { goal, actions, ..task }, clauses)
 }
 
 /// Changes the action until it keeps the clauses; false where that takes too long.
@@ -138,13 +161,14 @@ fn keep_forward(random: &mut Random, action: &mut Action, clauses: &[Clause], fa
     false
 }
 
-/// A task and clauses that hold in each goal state, fail in init, and hold before an
+/// A task and clauses that hold in each goal state, fail in each initial state, and hold before an
 /// action where they hold after it.
 pub fn backward(random: &mut Random, n: u8, method: Method, sizes: (usize, usize)) -> (Task, Vec<Clause>) {
     let facts = all_facts(n);
     let lacking = 1u64 << random.below(n as usize);
     let init = random.mask(facts, 1) & !lacking;
     let goal = lacking | random.mask(facts, 2);
+    let task = begun(random, n, init, facts & !init & !lacking, 16);
     let mut clauses = vec![Clause { positive: lacking, negative: random.mask(init, 1) }];
     if method == Method::TwoCnf {
         clauses[0].negative = random.bit(init);
@@ -163,7 +187,7 @@ pub fn backward(random: &mut Random, n: u8, method: Method, sizes: (usize, usize
         keep_backward(random, &mut next, &clauses, facts);
         actions.push(next);
     }
-    (Task { facts: n, init, goal, actions }, clauses)
+    (Task { goal, actions, ..task }, clauses)
 }
 
 /// Changes the action until a state before it meets the clauses where the one after it

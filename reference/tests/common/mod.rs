@@ -49,7 +49,7 @@ impl Meaning {
         let earlier = |e: &u16, s: u64| self.states[*e as usize][s as usize];
         match set {
             DraftSet::Empty => false,
-            DraftSet::Init => state == self.draft.init,
+            DraftSet::Init => is_init(&self.draft, state),
             DraftSet::Goal => self.draft.goal & !state == 0,
             DraftSet::Explicit(states) => states.contains(&state),
             DraftSet::Horn(clauses) | DraftSet::TwoCnf(clauses) => {
@@ -94,6 +94,12 @@ impl Meaning {
     }
 }
 
+/// Whether the state is an initial one: each known fact is as init has it.
+pub fn is_init(draft: &Draft, state: u64) -> bool {
+    let on = |mask: u64, f: u8| mask >> f & 1 == 1;
+    (0..64).all(|f| on(draft.unknown, f) || on(state, f) == on(draft.init, f))
+}
+
 /// The state that the action leads to, fact by fact; none where it does not apply.
 pub fn lead(action: &Action, from: u64) -> Option<u64> {
     let on = |mask: u64, f: u8| mask >> f & 1 == 1;
@@ -117,7 +123,7 @@ pub fn has_state(draft: &Draft, entry: u16, state: u64, from: Option<(u64, u16)>
     let has = |e: u16, s: u64| has_state(draft, e, s, from);
     match &draft.state_sets[entry as usize] {
         DraftSet::Empty => false,
-        DraftSet::Init => state == draft.init,
+        DraftSet::Init => is_init(draft, state),
         DraftSet::Goal => draft.goal & !state == 0,
         DraftSet::Explicit(states) => states.contains(&state),
         DraftSet::Horn(clauses) | DraftSet::TwoCnf(clauses) => clauses.iter().all(|c| meets(c, state)),
@@ -224,10 +230,13 @@ pub fn shape(draft: &Draft, rule: u8, e: u16, f: u16) -> bool {
         }
     }
     let inside: Vec<u8> = inside.iter().map(|s| kind(&draft.state_sets[*s as usize])).collect();
-    inside.iter().all(|k| *k <= 5) && kinds_permitted(rule, &left, &right, &inside)
+    let unknown = (0..64).filter(|f| draft.unknown >> f & 1 == 1).count();
+    let leave: &[u8] = if unknown <= 12 { &[0, 1, 3] } else { &[0, 3] };
+    inside.iter().all(|k| *k <= 5) && kinds_permitted(rule, leave, [&left, &right, &inside])
 }
 
-fn kinds_permitted(rule: u8, left: &[u8], right: &[u8], inside: &[u8]) -> bool {
+/// `leave` has the kinds of which one must stand where an explicit statement goes through states.
+fn kinds_permitted(rule: u8, leave: &[u8], [left, right, inside]: [&[u8]; 3]) -> bool {
     let mut special: Vec<u8> =
         [left, right, inside].concat().into_iter().filter(|k| (3..=5).contains(k)).collect();
     special.dedup();
@@ -237,7 +246,7 @@ fn kinds_permitted(rule: u8, left: &[u8], right: &[u8], inside: &[u8]) -> bool {
         [] | [4] | [5] => right.iter().filter(|k| **k != 0).count() <= 2,
         [3] => {
             let listing = if rule == 2 { inside } else { left };
-            listing.iter().any(|k| [0, 1, 3].contains(k))
+            listing.iter().any(|k| leave.contains(k))
         }
         _ => false,
     }
