@@ -9,6 +9,7 @@ use crate::file::{Clause, Step};
 use crate::names::{fact_number, has_form, Names};
 use crate::rules;
 use crate::task::Action;
+use crate::version::Places;
 
 /// The bytes of a text, or what is wrong with it and in which line.
 pub fn assemble(text: &str) -> Result<Vec<u8>, String> {
@@ -23,15 +24,24 @@ pub fn parse(text: &str) -> Result<Draft, String> {
 /// The draft of a text, and the names of its facts and actions.
 pub fn parse_named(text: &str) -> Result<(Draft, Names), String> {
     let (mut draft, mut names) = (Draft::default(), Names::default());
+    let mut unknown_line = None;
     for (number, line) in text.lines().enumerate() {
         let line = line.split('#').next().unwrap_or("");
         let words = tokens(line);
         if !words.is_empty() {
             let mut line = Line { words: &words, at: 0, names: &mut names };
             line.read(&mut draft).map_err(|why| format!("line {}: {why}", number + 1))?;
+            if words[0] == "unknown" {
+                unknown_line = Some(number + 1);
+            }
         }
     }
-    Ok((draft, names))
+    match unknown_line {
+        Some(line) if Places::of(draft.version).unknown.is_none() => {
+            Err(format!("line {line}: version {} has no unknown facts; 'version 2' has", draft.version))
+        }
+        _ => Ok((draft, names)),
+    }
 }
 
 /// Words; brackets, braces and signs stand alone, but within parentheses a sign belongs
@@ -85,6 +95,7 @@ impl<'a> Line<'a> {
             "facts" => draft.facts = self.number("fact count")?,
             "fact" => self.fact_name()?,
             "init" => draft.init = self.mask()?,
+            "unknown" => draft.unknown = self.mask()?,
             "goal" => draft.goal = self.mask()?,
             "action" => {
                 let number = self.in_turn(draft.actions.len())?;

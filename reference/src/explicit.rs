@@ -11,9 +11,9 @@ pub fn holds(file: &File, st: &Statement) -> bool {
         Bracket::Progression(_) => &st.inside,
         _ => &st.left,
     };
-    match smallest(file, listing) {
-        StateSet::Init => holds_from(file, st, file.task.inits()),
-        StateSet::Explicit(states) => holds_from(file, st, file.ascending(states).iter().copied()),
+    match smallest(file, listing.all()) {
+        Some(StateSet::Init) => holds_from(file, st, file.task.inits()),
+        Some(StateSet::Explicit(states)) => holds_from(file, st, file.ascending(states).iter().copied()),
         _ => true,
     }
 }
@@ -91,13 +91,13 @@ fn outside(file: &File, st: &Statement, state: State) -> bool {
     in_all(file, &st.left, state) && !st.right.all().iter().any(|&set| file.base_holds(set, state))
 }
 
-/// The leaf with the fewest states among those that give them one by one; the shape says there is one.
-fn smallest(file: &File, leaves: &Leaves) -> StateSet {
+/// The set with the fewest states among those that give them one by one, where there is one.
+pub fn smallest(file: &File, sets: &[StateSet]) -> Option<StateSet> {
     let count = |set: &StateSet| match set {
         StateSet::Init => 1 << file.task.unknown.count_ones(),
         StateSet::Explicit(states) => file.ascending(*states).len(),
         _ => 0,
     };
-    let listed = leaves.all().iter().filter(|set| is_listed(&file.task, set));
-    listed.min_by_key(|set| count(set)).copied().unwrap_or(StateSet::Empty)
+    let listed = sets.iter().filter(|set| is_listed(&file.task, set));
+    listed.min_by_key(|set| count(set)).copied()
 }

@@ -21,10 +21,11 @@ use reference::{
     Reply,
 };
 
-const USAGE: &str = "usage: reference check [--numbers LIST | --small] FILE | round FILE FROM COUNT | ask FILE ENTRY STATE | gen SEED COUNT | \
-numbered SEED COUNT | rounds SEED COUNT | small SEED COUNT | listed SEED COUNT | unknown SEED COUNT | relisted SEED COUNT | \
-twins SEED COUNT | damaged FILE SEED COUNT | replies | records | alike CASES REPLIES | twinned CASES REPLIES | assemble TEXTFILE | names TEXTFILE | show [--numbers LIST] FILE [NAMES] | \
-explain [--numbers LIST | --small] FILE [NAMES] | draw FILE [table|steps] [NAMES] | cost FILE | renumber LIST FILE | workload NUMBER SEED   \
+const USAGE: &str = "usage: reference check [--numbers LIST | --small] FILE | round FILE FROM COUNT | ask FILE ENTRY STATE | \
+gen SEED COUNT | numbered SEED COUNT | rounds SEED COUNT | small SEED COUNT | listed SEED COUNT | unknown SEED COUNT | \
+relisted SEED COUNT | twins SEED COUNT | damaged FILE SEED COUNT | replies | records | alike CASES REPLIES | twinned CASES REPLIES | \
+assemble TEXTFILE | names TEXTFILE | show [--numbers LIST] FILE [NAMES] | explain [--numbers LIST | --small] FILE [NAMES] | \
+draw FILE [table|steps] [NAMES] | cost FILE | renumber LIST FILE | workload NUMBER SEED   \
 (FILE may be - for standard input; LIST is numbers with commas or spaces between, or a file of bytes)";
 
 const EXPLAIN_USAGE: &str =
@@ -157,7 +158,7 @@ fn run(words: &[&str]) -> Result<(), Stop> {
         }
         ["workload", which, seed] => {
             let which = number(which)?;
-            if !(1..=5).contains(&which) {
+            if !(1..=7).contains(&which) {
                 return Err(Stop::Usage);
             }
             let draft = workload(&mut Random::new(number(seed)?), which as usize);

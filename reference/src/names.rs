@@ -7,11 +7,12 @@ use std::fmt;
 use crate::task::Task;
 
 /// The words of the text form, which cannot be names. Rule names are none of them: they never stand where a name may.
-const KEYWORDS: [&str; 22] = [
+const KEYWORDS: [&str; 23] = [
     "version",
     "facts",
     "fact",
     "init",
+    "unknown",
     "goal",
     "action",
     "actions",

@@ -7,6 +7,7 @@ use crate::file::{Clause, Step};
 use crate::names::Names;
 use crate::numbering::{check_steps, Lacked, Numbering};
 use crate::task::Action;
+use crate::version::Places;
 use crate::words::{describe, list_words};
 use crate::{layout, rules};
 
@@ -67,10 +68,7 @@ fn whole_text(draft: &Draft, lacked: &Lacked, names: &Names) -> String {
 }
 
 fn write_task(out: &mut String, draft: &Draft, names: &Names) -> std::fmt::Result {
-    if draft.version != 1 {
-        writeln!(out, "version {}", draft.version)?;
-    }
-    for line in head_lines(draft, names) {
+    for (_, line) in head_lines(draft, names) {
         writeln!(out, "{line}")?;
     }
     for (a, action) in draft.actions.iter().enumerate() {
@@ -96,15 +94,24 @@ fn joined(items: impl Iterator<Item = String>) -> String {
     items.collect::<Vec<String>>().join(" ")
 }
 
-/// The facts with their names, the initial state and the goal.
-pub fn head_lines(draft: &Draft, names: &Names) -> [String; 3] {
+/// The version, where it is not 1, the facts with their names, init, the unknown facts, where the version has them, and the goal: each
+/// with the name of its field.
+pub fn head_lines(draft: &Draft, names: &Names) -> Vec<(&'static str, String)> {
     let named = names.facts.iter().map(|(fact, name)| format!("\nfact {fact} {name}"));
     let init = if names.facts.is_empty() { state(draft.init) } else { names.facts_of(draft.init) };
-    [
-        format!("facts {}{}", draft.facts, named.collect::<String>()),
-        format!("init {init}"),
-        format!("goal {}", names.facts_of(draft.goal)),
-    ]
+    let mut lines = vec![
+        ("version", format!("version {}", draft.version)),
+        ("fact count", format!("facts {}{}", draft.facts, named.collect::<String>())),
+        ("init", format!("init {init}")),
+        ("unknown mask", format!("unknown {}", names.facts_of(draft.unknown))),
+        ("goal", format!("goal {}", names.facts_of(draft.goal))),
+    ];
+    lines.retain(|(field, _)| match *field {
+        "version" => draft.version != 1,
+        "unknown mask" => Places::of(draft.version).unknown.is_some(),
+        _ => true,
+    });
+    lines
 }
 
 /// An action by its number and its name, where it has one, `action 1 close_load`.

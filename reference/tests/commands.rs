@@ -141,10 +141,42 @@ fn pairs_and_their_replies() {
     std::fs::remove_file(&room).expect("the file goes");
 }
 
+/// Twins of versions 1 and 2, and replies that fit or do not; a pair that is none is told too.
+#[test]
+fn twins_and_their_replies() {
+    let cases = printed(&["twins", "4", "40"], b"");
+    assert_eq!(cases.lines().count(), 80);
+    let replies = printed(&["replies"], cases.as_bytes());
+    let room = std::env::temp_dir().join(format!("twins-{}", std::process::id()));
+    std::fs::write(&room, &cases).expect("a file");
+    let path = room.to_str().expect("a plain name");
+    assert_eq!(printed(&["twinned", path, "-"], replies.as_bytes()), "");
+    let mut lines: Vec<&str> = replies.lines().collect();
+    for (changed, told) in [(1, "lines 1 and 2: "), (79, "lines 79 and 80: ")] {
+        let reply = std::mem::replace(&mut lines[changed], "refused 5 15");
+        let (status, said) = stopped(&["twinned", path, "-"], lines.join("\n").as_bytes());
+        assert_eq!(status, Some(1));
+        assert!(said.starts_with(&format!("reference: {told}'")), "{said}");
+        lines[changed] = reply;
+    }
+    let turned: Vec<&str> = cases.lines().rev().collect();
+    std::fs::write(&room, turned.join("\n")).expect("a file");
+    lines.reverse();
+    let (status, said) = stopped(&["twinned", path, "-"], lines.join("\n").as_bytes());
+    assert_eq!(status, Some(1));
+    assert!(
+        said.ends_with("the second file is to be the first in version 2, with no unknown fact\n"),
+        "{said}"
+    );
+    std::fs::remove_file(&room).expect("the file goes");
+    let unknown = printed(&["unknown", "4", "30"], b"");
+    assert_eq!(printed(&["replies"], unknown.as_bytes()).lines().count(), 30);
+}
+
 #[test]
 fn wrong_calls_print_the_usage_and_end_with_2() {
     let cert = sample("sample.cert");
-    let wrong: [&[&str]; 30] = [
+    let wrong: [&[&str]; 33] = [
         &[],
         &["check"],
         &["check", &cert, "more"],
@@ -163,7 +195,10 @@ fn wrong_calls_print_the_usage_and_end_with_2() {
         &["rounds", "1"],
         &["small", "1"],
         &["listed", "1"],
+        &["unknown", "1"],
         &["relisted", "1"],
+        &["twins", "1"],
+        &["twinned", &cert],
         &["alike", &cert],
         &["round", &cert, "0"],
         &["round", &cert, "0", "18446744073709551616"],
@@ -173,8 +208,8 @@ fn wrong_calls_print_the_usage_and_end_with_2() {
         &["gen", "1"],
         &["gen", "1", "many"],
         &["workload", "0", "1"],
-        &["workload", "6", "1"],
-        &["unknown"],
+        &["workload", "8", "1"],
+        &["no-such-command"],
     ];
     for arguments in wrong {
         let output = run(arguments, b"");

@@ -96,9 +96,21 @@ fn step(action: &Action, state: u64) -> Option<u64> {
     applies.then(|| (0..64).filter(|f| after(*f)).map(|f| 1 << f).sum())
 }
 
+/// The initial states, at most 65 of them: each unknown fact doubles them.
+fn inits(draft: &Draft) -> Vec<u64> {
+    let mut found = vec![draft.init];
+    for bit in (0..64).filter(|f| on(draft.unknown, *f)).map(|f| 1u64 << f) {
+        let more: Vec<u64> = found.iter().map(|state| state | bit).collect();
+        found.extend(more);
+        found.truncate(65);
+    }
+    found.sort_unstable();
+    found
+}
+
 /// The states within reach by repeated passes over all that were found, until none is added or 65 are there.
 fn reach(draft: &Draft) -> Vec<u64> {
-    let mut found = vec![draft.init];
+    let mut found = inits(draft);
     loop {
         let before = found.len();
         for k in 0..before {
@@ -145,7 +157,9 @@ fn check_nodes(draft: &Draft, names: &Names, states: &[u64], graph: &dot::Graph)
 
 /// Each edge is a transition by the meaning, and each transition an edge, once.
 fn check_edges(draft: &Draft, names: &Names, states: &[u64], graph: &dot::Graph) {
-    let mut expected = vec![("start".to_string(), format!("s{}", draft.init), String::new())];
+    let inits = inits(draft).into_iter();
+    let mut expected: Vec<(String, String, String)> =
+        inits.map(|init| ("start".to_string(), format!("s{init}"), String::new())).collect();
     let mut joined: BTreeMap<(u64, u64), Vec<String>> = BTreeMap::new();
     for state in states {
         for (a, action) in draft.actions.iter().enumerate() {
@@ -168,6 +182,9 @@ fn random_task(random: &mut Random) -> Vec<u8> {
     draft.facts = random.between(2, 9) as u8;
     let facts = (1 << draft.facts) - 1;
     (draft.init, draft.goal) = (random.mask(facts, 1), random.mask(facts, 2));
+    if random.chance(50) {
+        (draft.version, draft.unknown) = (2, random.mask(facts & !draft.init, 1));
+    }
     // Actions that change one fact each lead to many states.
     let single = random.chance(30);
     let change = |random: &mut Random| match single {
@@ -196,6 +213,8 @@ fn check_table(bytes: &[u8], names: &Names) -> Option<[usize; 3]> {
     };
     assert!(graph.caption[1].starts_with(&format!("{} state", states.len())), "{:?}", graph.caption);
     assert!(graph.caption[1].ends_with(&forbidden), "{:?}", graph.caption);
+    let unknown = format!("At the start {} may be on or off.", listed(draft.unknown, names));
+    assert_eq!(graph.caption[2..], [unknown][..(draft.unknown != 0) as usize]);
     Some(counts)
 }
 

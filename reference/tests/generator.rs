@@ -11,6 +11,8 @@ use reference::generate::numbered::numbered;
 use reference::generate::relisted::relisted;
 use reference::generate::rounds::rounds;
 use reference::generate::small::small;
+use reference::generate::twins::twins;
+use reference::generate::unknown::unknown;
 use reference::generate::{cases, Call, Case};
 use reference::layout;
 use reference::steps::check_step;
@@ -70,7 +72,7 @@ fn count_kinds(draft: &Draft, summary: &mut Summary) {
 #[test]
 fn every_reply_rule_and_kind_is_reached() {
     let s = summary(1, 5000);
-    for reply in 1..=13 {
+    for reply in (1..=13).chain([16]) {
         let count = s.replies.get(&format!("refused {reply}")).copied().unwrap_or(0);
         assert!(count >= 8, "reply {reply} appears {count} times");
     }
@@ -112,12 +114,13 @@ fn the_cases_of_seed_1_are_pinned() {
     assert_eq!(hash, PINNED, "{hash:#x}");
 }
 
-const PINNED: u64 = 0x0CE9_070E_767D_DABA;
+const PINNED: u64 = 0x698D_536C_54A9_5DD7;
 
 #[test]
 fn the_line_form_reads_back() {
     let others = numbered(9, 200).chain(rounds(9, 200)).chain(small(9, 200)).chain(listed(9, 200));
-    for case in cases(9, 500).chain(others).chain(relisted(9, 50)) {
+    let pairs = relisted(9, 50).chain(twins(9, 50)).chain(unknown(9, 200));
+    for case in cases(9, 500).chain(others).chain(pairs) {
         assert_eq!(Case::parse(&case.line()), Some(case));
     }
     let empty = Case { call: Call::Check, bytes: Vec::new() };

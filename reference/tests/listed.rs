@@ -347,7 +347,7 @@ fn generated_files_against_the_slow_checker() {
 #[test]
 fn the_generator_reaches_the_limits() {
     let mut seen: BTreeMap<(usize, bool, String), usize> = BTreeMap::new();
-    for case in listed(64, 6000) {
+    for case in listed(64, 9000) {
         let Some(longest) = bodies(&case.bytes).into_iter().max_by_key(|body| body.len()) else { continue };
         let states: Vec<&[u8]> = case.bytes[longest].chunks(8).collect();
         let different = BTreeSet::from_iter(states.iter().copied()).len();

@@ -123,7 +123,7 @@ fn order_at_the_size() {
         assert_eq!(both(&[0; 4][..length]), [refused(1, 0), refused(1, 0)]);
     }
     let changes: [(Change, u8, usize); 5] = [
-        (|d| d.version = 2, 2, 4),
+        (|d| d.version = 3, 2, 4),
         (|d| d.facts = 0, 4, 5),
         (|d| d.goal = 4, 5, 14),
         (|d| d.state_sets[5] = DraftSet::Union(5, 0), 6, 125),
@@ -417,7 +417,8 @@ fn what_is_no_breach() {
 /// too where these do not lead to one.
 fn breach(bytes: &[u8]) -> Option<usize> {
     let number = |at: usize| Some(u16::from_be_bytes(bytes.get(at..at + 2)?.try_into().ok()?) as usize);
-    let mut at = 24 + 24 * number(22)?;
+    let head = if bytes.get(4) == Some(&2) { 30 } else { 22 };
+    let mut at = head + 2 + 24 * number(head)?;
     let action_sets = number(at)?;
     at += 2;
     for _ in 0..action_sets {
@@ -441,7 +442,7 @@ fn expected(bytes: &[u8]) -> Reply {
     match (full, breach(bytes)) {
         (Reply::Refused { number: 1, .. }, _) => full,
         _ if bytes.len() > 16_384 => Reply::Refused { number: 19, place: 0 },
-        (Reply::Refused { number: 2..=7, place }, Some(at)) if place < at as u64 => full,
+        (Reply::Refused { number: 2..=7 | 16, place }, Some(at)) if place < at as u64 => full,
         (_, Some(at)) => Reply::Refused { number: 19, place: at as u64 },
         (_, None) => full,
     }
@@ -505,7 +506,7 @@ fn summary(seed: u64, count: u64) -> Summary {
         if let Reply::Refused { number: 19, place } = reply {
             summary.add(format!("{}: {}", sort(bytes, place), outcome(full)));
         }
-        if let (Reply::Refused { number: 1..=7, place }, Some(at)) = (reply, breach(bytes)) {
+        if let (Reply::Refused { number: 1..=7 | 16, place }, Some(at)) = (reply, breach(bytes)) {
             assert!(place < at as u64);
             summary.add(format!("before a breach: {}", outcome(reply)));
         }

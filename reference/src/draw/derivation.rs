@@ -31,7 +31,11 @@ pub fn graph(file: &File, names: &Names) -> String {
         }
     }
     let reply = refused.map_or("accepted".into(), |fault| in_words(file, &fault));
-    let mut caption = vec![reply, "init: the start, goal: the forbidden states".into()];
+    let init = match file.task.unknown {
+        0 => "init: the start".into(),
+        unknown => format!("init: the start with {} on or off", names.facts_of(unknown)),
+    };
+    let mut caption = vec![reply, format!("{init}, goal: the forbidden states")];
     caption.extend(entries.explained());
     head("steps", "TB", &caption) + &nodes + &edges + "}\n"
 }

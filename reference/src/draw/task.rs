@@ -23,13 +23,13 @@ pub fn graph(task: &Task, names: &Names) -> Result<String, String> {
     let too_many =
         || format!("at least {found} states are within reach, and {MOST_STATES} are the most drawn");
     let states = explore(task, MOST_STATES).ok_or_else(too_many)?;
-    let mut out = head("table", "LR", &caption(task, &states));
+    let mut out = head("table", "LR", &caption(task, &states, names));
     out += "  start [shape=plaintext style=\"\"];\n";
     for state in &states {
         out += &node(*state, names, task.is_goal(*state).then_some(FORBIDDEN));
     }
     out += &unreached_nodes(task, &states, names);
-    out += &format!("  start -> s{};\n", task.init);
+    out += &task.inits().map(|state| format!("  start -> s{state};\n")).collect::<String>();
     for ((from, to), actions) in transitions(task, &states) {
         let actions: Vec<String> = actions.into_iter().map(|a| action(a, names)).collect();
         let label = label(&wrapped(&actions.join(", "), LABEL_WIDTH));
@@ -53,15 +53,22 @@ fn action(action: u16, names: &Names) -> String {
     names.actions.get(&action).cloned().unwrap_or(format!("action {action}"))
 }
 
-/// What a box is, how many states are within reach, and how many of them are forbidden.
-fn caption(task: &Task, states: &BTreeSet<State>) -> [String; 2] {
+/// What a box is, how many states are within reach, and how many of them are forbidden; and which facts may be on or off at first.
+fn caption(task: &Task, states: &BTreeSet<State>, names: &Names) -> Vec<String> {
     let count = states.len();
     let are = if count == 1 { "state is" } else { "states are" };
     let forbidden = match states.iter().filter(|s| task.is_goal(**s)).count() {
         0 => "no forbidden one among them".to_string(),
         some => format!("{some} of them forbidden"),
     };
-    ["A box lists the facts that are on.".into(), format!("{count} {are} within reach, {forbidden}.")]
+    let mut lines = vec![
+        "A box lists the facts that are on.".into(),
+        format!("{count} {are} within reach, {forbidden}."),
+    ];
+    if task.unknown != 0 {
+        lines.push(format!("At the start {} may be on or off.", names.facts_of(task.unknown)));
+    }
+    lines
 }
 
 /// The forbidden states that are not within reach, at the far end; none where there are many states in all.

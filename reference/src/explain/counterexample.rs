@@ -4,6 +4,7 @@
 
 use super::shape::{sides, Leaf};
 use crate::clauses::{propagate_units, pulled, Known};
+use crate::explicit::smallest;
 use crate::file::{marked, marked_actions, Clause, File, StateSet, Step};
 use crate::task::{Action, State};
 
@@ -31,8 +32,10 @@ pub fn find(file: &File, step: &Step) -> Option<Counterexample> {
     }
     let statement = Statement::of(file, step)?;
     let (before, action) = match statement.listing() {
-        Some(states) => statement.among(states)?,
         None => statement.by_model()?,
+        Some(StateSet::Init) => statement.among(file.task.inits())?,
+        Some(StateSet::Explicit(states)) => statement.among(file.ascending(states).iter().copied())?,
+        Some(_) => return None,
     };
     Some(statement.counterexample(before, action))
 }
@@ -81,24 +84,19 @@ impl<'a> Statement<'a> {
         sets.iter().all(|set| self.file.base_holds(*set, state))
     }
 
-    /// The states of the smallest set of `before` that gives its states one by one, if there is one.
-    fn listing(&self) -> Option<&[State]> {
-        let listed = self.before.iter().filter_map(|set| match set {
-            StateSet::Empty => Some(&[][..]),
-            StateSet::Init => Some(std::slice::from_ref(&self.file.task.init)),
-            StateSet::Explicit(states) => Some(self.file.ascending(*states)),
-            StateSet::Goal | StateSet::Horn(_) | StateSet::TwoCnf(_) => None,
-            // No leaf is of these kinds.
-            StateSet::Complement(_) | StateSet::Intersection(..) | StateSet::Union(..) => None,
-            StateSet::Progression(..) | StateSet::Regression(..) => None,
-        });
-        listed.min_by_key(|states| states.len())
+    /// In a statement with a list of states, the set of `before` that gives the fewest states one by one.
+    fn listing(&self) -> Option<StateSet> {
+        let mut sets = self.before.iter().chain(&self.after).chain(&self.right);
+        if !sets.any(|set| matches!(set, StateSet::Explicit(_))) {
+            return None;
+        }
+        smallest(self.file, &self.before)
     }
 
     /// One of these states, and the action that makes it a counterexample.
-    fn among(&self, states: &[State]) -> Option<(State, (u16, Action))> {
-        let mut fitting = states.iter().filter(|state| self.in_all(&self.before, **state));
-        fitting.find_map(|&state| Some((state, self.refuting_action(state)?)))
+    fn among(&self, states: impl Iterator<Item = State>) -> Option<(State, (u16, Action))> {
+        let mut fitting = states.filter(|state| self.in_all(&self.before, *state));
+        fitting.find_map(|state| Some((state, self.refuting_action(state)?)))
     }
 
     /// An action that makes this state a counterexample.
@@ -141,7 +139,7 @@ impl Statement<'_> {
         let on = |mask| facts(mask).map(|positive| Clause { positive, negative: 0 });
         let off = |mask| facts(mask).map(|negative| Clause { positive: 0, negative });
         match set {
-            StateSet::Init => Some(on(task.init).chain(off(task.all_facts() & !task.init)).collect()),
+            StateSet::Init => Some(on(task.init).chain(off(task.init_off())).collect()),
             StateSet::Goal => Some(on(task.goal).collect()),
             StateSet::Horn(span) | StateSet::TwoCnf(span) => Some(span.of(&self.file.clauses).to_vec()),
             StateSet::Empty | StateSet::Explicit(_) => None,

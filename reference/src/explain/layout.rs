@@ -1,4 +1,4 @@
-//! Replies 1 to 7, and 19: the field with the fault, what it holds and what it may hold.
+//! Replies 1 to 7, 16 and 19: the field with the fault, what it holds and what it may hold.
 
 use std::ops::Range;
 
@@ -8,6 +8,7 @@ use crate::file::File;
 use crate::layout::{
     Limits, MAX_ACTIONS, MAX_ACTION_SETS, MAX_BYTES, MAX_CLAUSES, MAX_STATES, MAX_STATE_SETS, MAX_STEPS,
 };
+use crate::version::VERSIONS;
 
 /// What a field may hold.
 #[derive(Clone, Debug, PartialEq, Eq)]
@@ -18,6 +19,8 @@ pub enum Allowed {
     Above(u64),
     /// A mask or state of facts below this number.
     FactsBelow(u8),
+    /// A mask of none of these facts, which are on in init.
+    Without(u64),
     /// A clause with at most one positive fact.
     Horn,
     /// A clause with at most two literals.
@@ -79,7 +82,7 @@ impl Context<'_> {
             Item::Whole if self.is_too_long() => self.bytes.len(),
             Item::Whole => 4,
             Item::Field("version" | "fact count") => 1,
-            Item::Field("init" | "goal") | Item::Mask(..) => 8,
+            Item::Field("init" | "unknown mask" | "goal") | Item::Mask(..) => 8,
             Item::Field(_) => 2,
             Item::Entry(..) => 2 + self.number_at(self.place, 2).unwrap_or(0) as usize,
             Item::EntryLength(..) => 2,
@@ -107,11 +110,12 @@ impl Context<'_> {
             (1, _) if there < 4 => Allowed::Whole { there },
             (1, _) if there > MAX_BYTES => Allowed::Numbers(4..MAX_BYTES as u64 + 1),
             (1, _) => Allowed::Numbers(there as u64 - 4..there as u64 - 3),
-            (2, _) => Allowed::Numbers(1..2),
+            (2, _) => Allowed::Numbers(*VERSIONS.start() as u64..*VERSIONS.end() as u64 + 1),
             (3, Item::Rest) => Allowed::Nothing,
             (3, _) => Allowed::Whole { there },
             (4, item) => self.range(item),
             (5, _) => Allowed::FactsBelow(self.file.task.facts),
+            (16, _) => Allowed::Without(self.file.task.init),
             (6, item) => Allowed::Numbers(0..self.named_below(item) as u64),
             (19, item) => self.within_limits(item),
             (_, Item::Part(_, _, "clause", _)) => match self.kind(Group::StateSet) {

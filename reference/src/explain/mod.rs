@@ -27,7 +27,7 @@ use shape::ShapeFault;
 #[derive(Clone, Debug, PartialEq, Eq)]
 pub enum Why {
     Accepted(Argument),
-    /// Replies 1 to 7, and 19.
+    /// Replies 1 to 7, 16 and 19.
     Layout(LayoutFault),
     /// Reply 8.
     Fields(Vec<FieldFault>),

@@ -246,10 +246,10 @@ fn mask(random: &mut Random, d: &mut Draft) {
 }
 
 fn head(random: &mut Random, d: &mut Draft) {
-    match random.below(11) {
-        0 | 8 => d.version = random.pick(&[0, VERSIONS.end() + 1, 255]),
-        9 => d.version = random.pick(&[1, 2]),
-        10 => d.unknown = random.mask(d.unknown, 1),
+    match random.below(12) {
+        0 | 8 | 9 => d.version = random.pick(&[0, VERSIONS.end() + 1, 255]),
+        10 => d.version = random.pick(&[1, 2]),
+        11 => d.unknown = random.mask(d.unknown, 1),
         1 => d.facts = random.pick(&[0, 65, 255]),
         2 => d.facts = d.facts.wrapping_sub(1),
         3 => d.facts = (d.facts + 1).min(64),

@@ -4,7 +4,7 @@
 
 use crate::draft::{mend_length, Draft, DraftSet};
 use crate::file::{Clause, Judgement, StateSet};
-use crate::generate::builder::{Builder, EMPTY, GOAL, INIT};
+use crate::generate::builder::{Builder, ALL, EMPTY, GOAL, INIT};
 use crate::generate::certificates::{by_pg, by_pi, finish};
 use crate::generate::limits::Cube;
 use crate::generate::random::Random;
@@ -135,15 +135,39 @@ fn some_list(b: &mut Builder) -> u16 {
     b.listed(states)
 }
 
-/// A statement of B1 to B3 in which kind 1 is frequent; now and then one of B4, which does not take it.
+/// A statement of B1 to B3 in which kind 1 is frequent, or has to give the leave; now and then one of B4, which does not take it.
 fn statement(b: &mut Builder, lists: [u16; 2]) -> (u8, Judgement) {
-    let base = [INIT, INIT, INIT, EMPTY, GOAL, lists[0], lists[1], lists[0], lists[1]];
     let rule = b.random.pick(&[1, 1, 1, 1, 2, 2, 2, 2, 3, 3, 3, 3, 4]);
     if rule == 4 {
-        let other = b.random.pick(&base);
-        return (4, Judgement::Within(INIT, other));
+        return (4, Judgement::Within(INIT, lists[0]));
     }
+    if b.random.chance(50) {
+        return (rule, by_init(b, lists, rule));
+    }
+    let base = [INIT, INIT, INIT, EMPTY, GOAL, lists[0], lists[1], lists[0], lists[1]];
     (rule, applications::over(b, &base, rule))
+}
+
+/// A statement with a list in which kind 1 stands where leave is given, mostly with no other kind that gives it; most are true.
+fn by_init(b: &mut Builder, [list, other]: [u16; 2], rule: u8) -> Judgement {
+    let init = match b.random.below(6) {
+        0 => b.and(INIT, GOAL),
+        1 => b.and(INIT, EMPTY),
+        2 => b.and(list, INIT),
+        _ => INIT,
+    };
+    let left = match rule {
+        1 => init,
+        2 => b.set(StateSet::Progression(init, ALL)),
+        _ => {
+            let led = b.set(StateSet::Regression(other, ALL));
+            b.and(led, init)
+        }
+    };
+    // ~0 on the right is 0 on the moved left, which gives leave outside the bracket.
+    let not_empty = b.not(EMPTY);
+    let beside = b.random.pick(&[INIT, INIT, INIT, GOAL, not_empty]);
+    Judgement::Within(left, b.or(list, beside))
 }
 
 /// Changes the mask a little, leaves a state out of a list, or takes the mask away.

@@ -1,4 +1,4 @@
-//! Replies 1 to 7: the bytes of the field hold what is told, and what it may hold is tried out: with an
+//! Replies 1 to 7 and 16: the bytes of the field hold what is told, and what it may hold is tried out: with an
 //! allowed value in its place the fault is gone, with one just outside it is back. The text before
 //! the fault assembles to the beginning of the file.
 
@@ -12,6 +12,7 @@ use reference::explain::Why;
 use reference::fault::Item;
 use reference::generate::limits::full_file;
 use reference::generate::random::Random;
+use reference::generate::unknown::unknown;
 use reference::generate::{cases, damaged, mutate};
 use reference::task::all_facts;
 use reference::{check, Reply};
@@ -63,7 +64,9 @@ impl Told<'_> {
         let field = self.field();
         assert_eq!(value, number(&field[..field.len().min(8)]), "{}", self.text);
         let told = match self.fault.allowed {
-            Allowed::FactsBelow(_) => format!("\nIt holds {value:#x}: facts {}, ", facts(value)),
+            Allowed::FactsBelow(_) | Allowed::Without(_) => {
+                format!("\nIt holds {value:#x}: facts {}, ", facts(value))
+            }
             Allowed::Horn | Allowed::TwoLiteral => "\nIt holds (".to_string(),
             _ => format!("\nIt holds {value}.\n"),
         };
@@ -88,6 +91,12 @@ impl Told<'_> {
                 gone(all_facts(*n));
                 back(1 << n);
             }
+            Allowed::Without(init) => {
+                gone(0);
+                gone(all_facts(self.bytes[5]) & !init);
+                (0..64).map(|f| 1 << f).filter(|bit| init & bit != 0).for_each(back);
+                assert_eq!(*init, number(&self.bytes[6..14]));
+            }
             Allowed::Horn => self.clauses(&[(1, 3), (2, 0)], &[(3, 0)]),
             Allowed::TwoLiteral => self.clauses(&[(1, 2), (3, 0), (0, 3)], &[(3, 1), (1, 3)]),
             Allowed::Length { fixed, each, most, .. } => self.lengths(*fixed, *each, *most),
@@ -104,7 +113,7 @@ impl Told<'_> {
             Allowed::Nothing => {
                 let mut shorter = self.bytes[..self.fault.bytes.start].to_vec();
                 mend_length(&mut shorter);
-                let past_the_layout = |reply| !matches!(reply, Reply::Refused { number: 1..=7, .. });
+                let past_the_layout = |reply| !matches!(reply, Reply::Refused { number: 1..=7 | 16, .. });
                 assert!(past_the_layout(check(&shorter)), "{}", self.text);
             }
         }
@@ -154,14 +163,14 @@ fn text_before(text: &str) -> &str {
     rest.split_once("\n\n").map_or("", |(before, _)| before)
 }
 
-/// How many of the items of the head (facts, init, goal) and which lists stand before the item: lists are
-/// actions, action sets, state sets and steps.
+/// How many of the items of the head (facts, init, and with the unknown facts or without them the goal) and which lists stand before the
+/// item: lists are actions, action sets, state sets and steps.
 fn section(item: Item) -> usize {
     use reference::fault::Group::*;
     match item {
         Item::Whole | Item::Field("version" | "fact count") => 0,
         Item::Field("init") => 1,
-        Item::Field("goal") => 2,
+        Item::Field("unknown mask" | "goal") => 2,
         Item::Field("action count") | Item::Mask(..) => 3,
         Item::Field("action set count") => 4,
         Item::Entry(ActionSet, _) | Item::EntryLength(ActionSet, _) | Item::EntryKind(ActionSet, _) => 4,
@@ -179,7 +188,8 @@ fn count_places(draft: &Draft) -> [usize; 4] {
     let steps = d.encode().len() - 2;
     d.state_sets.clear();
     let state_sets = d.encode().len() - 4;
-    [22, 24 + 24 * draft.actions.len(), state_sets, steps]
+    let actions = if draft.version == 2 { 30 } else { 22 };
+    [actions, actions + 2 + 24 * draft.actions.len(), state_sets, steps]
 }
 
 /// The text before the fault assembles to the bytes before the item with the fault, but for the count of
@@ -190,11 +200,14 @@ fn text_is_the_beginning(told: &Told) {
     let (made, bytes) = (draft.encode(), told.bytes);
     let place = told.fault.bytes.start;
     let items = before.lines().filter(|line| !line.starts_with('#')).count();
+    // Version 2 stands in the text, and the unknown facts before the goal.
+    let second = (draft.version == 2) as usize;
+    let masks = (told.fault.item == Item::Field("goal")) as usize * second;
     match section(told.fault.item) {
-        0 => assert_eq!(before, ""),
+        0 => assert_eq!(before, ["", "version 2"][second]),
         head @ 1..=2 => {
-            assert_eq!((items, place), (head, 6 + 8 * (head - 1)));
-            assert_eq!(made[5..place], bytes[5..place]);
+            assert_eq!((items, place), (head + second + masks, 6 + 8 * (head - 1 + masks)));
+            assert_eq!(made[4..place], bytes[4..place]);
         }
         list => {
             let counts = count_places(&draft);
@@ -230,7 +243,7 @@ fn examine(bytes: &[u8], explained: &Explained, seen: &mut (Tally<(u8, String)>,
 #[test]
 fn fields_of_damaged_files() {
     let mut seen = (Tally::new(), Tally::new());
-    let generated = cases(33, 3000).filter(|case| case.is_check()).map(|case| case.bytes);
+    let generated = cases(33, 6000).filter(|case| case.is_check()).map(|case| case.bytes);
     let noise = damaged(&sample().encode(), 3, 300).map(|case| case.bytes).collect::<Vec<_>>();
     let mut random = Random::new(35);
     let lists = (0..4000).map(move |_| {
@@ -243,16 +256,19 @@ fn fields_of_damaged_files() {
         }
         d.encode()
     });
-    for bytes in generated.chain(noise).chain(lists).filter(|bytes| bytes.len() < 5000) {
+    let masks = unknown(34, 3000).map(|case| case.bytes);
+    let files = generated.chain(noise).chain(lists).chain(masks);
+    for bytes in files.filter(|bytes| bytes.len() < 5000) {
         examine(&bytes, &explained(&bytes), &mut seen);
     }
     let lengths =
         [(1, "Numbers"), (2, "Numbers"), (3, "Whole"), (3, "Nothing"), (4, "Numbers"), (4, "Length")];
-    let contents = [(5, "FactsBelow"), (6, "Numbers"), (7, "Above"), (7, "Horn"), (7, "TwoLiteral")];
+    let contents =
+        [(5, "FactsBelow"), (16, "Without"), (6, "Numbers"), (7, "Above"), (7, "Horn"), (7, "TwoLiteral")];
     let faults = lengths.into_iter().chain(contents);
     seen.0.each_at_least(40, faults.map(|(number, allowed)| (number, allowed.to_string())));
     seen.0.each_at_least(10, [(1, "Whole".to_string())]);
-    let fields = ["version", "fact count", "init", "goal"].into_iter().chain(COUNTS);
+    let fields = ["version", "fact count", "init", "unknown mask", "goal"].into_iter().chain(COUNTS);
     seen.1.each_at_least(20, fields.chain(["pre", "add", "del", "entry", "length", "kind"]));
     seen.1.each_at_least(30, ["action", "reference", "state", "clause", "step", "rest"]);
 }

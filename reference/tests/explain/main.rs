@@ -80,8 +80,8 @@ fn any_bytes() {
     let mut seen: Tally<String> = Tally::new();
     let mut random = Random::new(37);
     let files: Vec<Vec<u8>> =
-        cases(44, 100).map(|case| case.bytes).filter(|b| (1..2000).contains(&b.len())).collect();
-    for round in 0..15_000 {
+        cases(45, 100).map(|case| case.bytes).filter(|b| (1..2000).contains(&b.len())).collect();
+    for round in 0..20_000 {
         let mut bytes = files[random.below(files.len())].clone();
         for _ in 0..random.between(1, 4) {
             let at = random.below(bytes.len());
@@ -96,5 +96,8 @@ fn any_bytes() {
         let reply = explained(&bytes).reply.to_string();
         seen.add(reply.split(' ').take(2).collect::<Vec<_>>().join(" "));
     }
-    seen.each_at_least(5, (1..=12).map(|number| format!("refused {number}")).chain(["accepted".to_string()]));
+    seen.each_at_least(
+        5,
+        (1..=12).chain([16]).map(|number| format!("refused {number}")).chain(["accepted".to_string()]),
+    );
 }

@@ -198,7 +198,7 @@ fn label(parts: &Parts) -> &'static str {
 #[test]
 fn applications_with_one_wrong_place() {
     let mut seen: Tally<(u8, &'static str)> = Tally::new();
-    for seed in 0..500 {
+    for seed in 0..800 {
         let mut random = Random::new(seed);
         let (task, _) = tasks::reachable(&mut random, 3, 8);
         for rule in 6..=28 {

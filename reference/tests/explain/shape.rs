@@ -12,6 +12,8 @@ use reference::generate::builder::Builder;
 use reference::generate::limits::many_state_sets;
 use reference::generate::random::Random;
 use reference::generate::tasks;
+use reference::generate::unknown::unknown;
+use reference::layout;
 use reference::Reply;
 
 /// A step of a file and the trees of its two sides.
@@ -131,7 +133,9 @@ fn is_so(st: &Statement, fault: &ShapeFault) -> bool {
         }
         ShapeFault::NoListed { leaves } => {
             let there = if st.rule == 2 { st.inside() } else { st.moved(Side::Left) };
-            let listed = there.iter().any(|leaf| [0, 1, 3].contains(&st.kind(*leaf)));
+            let few = (0..64).filter(|f| st.draft.unknown >> f & 1 == 1).count() <= 12;
+            let leave = |kind: u8| [0, 3].contains(&kind) || (kind == 1 && few);
+            let listed = there.iter().any(|leaf| leave(st.kind(*leaf)));
             entries(leaves) == sorted(there) && !listed && st.has_list()
         }
         ShapeFault::Pair(fault) => st.rule == 4 && pair_is_so(st, fault),
@@ -233,6 +237,30 @@ fn what_is_told_is_not_permitted() {
     }
     let names = ["no literal", "pair kind", "pair alike", "pair list", "pair disjoint"];
     seen.each_at_least(30, names.map(|name| (4, name)));
+}
+
+/// With more than 12 unknown facts init gives no leave, and that is told.
+#[test]
+fn init_with_many_unknown_facts() {
+    let mut seen: Tally<(u8, bool)> = Tally::new();
+    for case in unknown(38, 4000).filter(|case| case.is_check()) {
+        let Ok(file) = layout::read(&case.bytes) else { continue };
+        let explained = explained(&case.bytes);
+        let (Why::Shape(fault), Reply::Refused { place, .. }) = (&explained.why, explained.reply) else {
+            continue;
+        };
+        let (draft, step) = (Draft::of(&file), file.steps[place as usize]);
+        assert!(is_so(&Statement::of(&draft, &step), fault), "{fault:?}\n{}", explained.text);
+        let ShapeFault::NoListed { leaves } = fault else { continue };
+        let init = leaves.iter().any(|leaf| draft.state_sets[leaf.base as usize] == DraftSet::Init);
+        let count = draft.unknown.count_ones();
+        let told = format!("\nInit does only with at most 12 unknown facts: here {count} are, for ");
+        assert_eq!(explained.text.contains(&told), init, "{}", explained.text);
+        assert!(!init || count > 12, "{}", explained.text);
+        seen.add((step.rule, init));
+    }
+    seen.each_at_least(20, [(1, true), (2, true), (3, true)]);
+    seen.each_at_least(4, [(1, false), (2, false), (3, false)]);
 }
 
 /// A tree of two to the power 505 leaves: they are counted, and not gone through.

@@ -12,6 +12,7 @@ use reference::file::{Clause, Judgement, StateSet, Step};
 use reference::generate::applications::{add_pool, basic};
 use reference::generate::builder::Builder;
 use reference::generate::random::Random;
+use reference::generate::unknown::unknown;
 use reference::generate::worst::{no_model, two_right_leaves, Left, Order};
 use reference::generate::{cases, tasks};
 use reference::layout;
@@ -285,7 +286,7 @@ fn models_that_only_later_actions_have() {
 #[test]
 fn whole_files() {
     let mut seen: Tally<u8> = Tally::new();
-    for case in cases(31, 4000).filter(|case| case.is_check()) {
+    for case in cases(31, 4000).chain(unknown(31, 3000)).filter(|case| case.is_check()) {
         let Ok(file) = layout::read(&case.bytes) else { continue };
         let explained = explained(&case.bytes);
         let Reply::Refused { number: 8..=12, place } = explained.reply else { continue };

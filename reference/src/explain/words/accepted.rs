@@ -14,9 +14,10 @@ pub fn words(text: &Text, file: &File, argument: &Argument) -> Vec<String> {
     lines.push(String::new());
     lines.extend(invariant(text, argument));
     lines.push(String::new());
-    lines.push(
-        "Dead are, in turn (no sequence of actions from init to a goal state passes a dead set):".into(),
-    );
+    let from = if several(file) { "an initial state" } else { "init" };
+    lines.push(format!(
+        "Dead are, in turn (no sequence of actions from {from} to a goal state passes a dead set):"
+    ));
     for (number, set) in &argument.dead {
         lines.push(format!("  {}, by step {number} {}", text.set(*set), rule_name(file, *number)));
         lines.push(format!("    {}.", reason(file, *number)));
@@ -32,12 +33,17 @@ pub fn words(text: &Text, file: &File, argument: &Argument) -> Vec<String> {
     lines
 }
 
+/// Whether there is more than one initial state.
+fn several(file: &File) -> bool {
+    file.task.unknown != 0
+}
+
 fn rule_name(file: &File, number: usize) -> &'static str {
     by_number(file.steps[number].rule).map_or("", |rule| rule.name)
 }
 
 fn task(text: &Text) -> Vec<String> {
-    let (init, goal) = (text.state(text.draft.init), text.names.facts_of(text.draft.goal));
+    let (init, goal) = (text.inits(), text.names.facts_of(text.draft.goal));
     let facts = counted(text.draft.facts as usize, "fact");
     let actions = counted(text.draft.actions.len(), "action");
     vec![
@@ -88,11 +94,15 @@ fn reason(file: &File, number: usize) -> String {
     let entering = format!(
         "Into set {set} actions lead only from it or set {rest} (step {p}), which is dead (step {q})"
     );
+    let (all, none) = match several(file) {
+        true => ("all initial states are", "no initial state is"),
+        false => ("init is", "init is not"),
+    };
     match step.rule {
         9 => format!("{leaving}; its goal states, set {}, are dead (step {r})", named(2, 0)),
-        10 => format!("{leaving}; init is in set {set} (step {r}), so nothing outside it is reached but through set {rest}"),
+        10 => format!("{leaving}; {all} in set {set} (step {r}), so nothing outside it is reached but through set {rest}"),
         11 => format!("{entering}; the goal states outside it, set {}, are dead (step {r})", named(2, 0)),
-        _ => format!("{entering}; init is not in set {set} (step {r}), so it is never reached but through set {rest}"),
+        _ => format!("{entering}; {none} in set {set} (step {r}), so it is never reached but through set {rest}"),
     }
 }
 

@@ -8,12 +8,12 @@ use crate::fault::Item;
 use crate::file::{Clause, File};
 use crate::names::Names;
 use crate::show::{self, ALL};
+use crate::version::Places;
 
 /// The lines of everything before the fault, which was read.
 pub fn lines(bytes: &[u8], read: &Examined, fault: &LayoutFault, names: &Names) -> Vec<String> {
     let draft = Draft::of(&read.file);
-    let mut lines = show::head_lines(&draft, names).to_vec();
-    lines.truncate(head_items(fault.item));
+    let mut lines = head(&draft, fault.item, names);
     lines.extend(draft.actions.iter().enumerate().map(|(a, action)| show::action_line(a, action, names)));
     let sets = draft.action_sets.iter().enumerate();
     lines.extend(sets.map(|(e, set)| format!("actions {e} {}", show::action_set(set, names, ALL))));
@@ -25,15 +25,13 @@ pub fn lines(bytes: &[u8], read: &Examined, fault: &LayoutFault, names: &Names) 
     lines
 }
 
-/// How many of facts, init and goal stand before the item.
-fn head_items(item: Item) -> usize {
-    match item {
-        Item::Whole | Item::Field("version" | "fact count") => 0,
-        Item::Field("init") => 1,
-        Item::Field("goal") => 2,
-        Item::Field(_) | Item::Mask(..) | Item::Entry(..) | Item::EntryLength(..) => 3,
-        Item::EntryKind(..) | Item::Part(..) | Item::Step(_) | Item::Rest => 3,
+/// The lines of the fields up to the goal that stand before the item.
+fn head(draft: &Draft, item: Item, names: &Names) -> Vec<String> {
+    if matches!(item, Item::Whole | Item::Field("version")) {
+        return Vec::new();
     }
+    let before = show::head_lines(draft, names).into_iter();
+    before.take_while(|(field, _)| item != Item::Field(field)).map(|(_, line)| line).collect()
 }
 
 /// The beginning of the action, list, or set of clauses in which the fault lies.
@@ -42,7 +40,8 @@ fn begun(bytes: &[u8], file: &File, fault: &LayoutFault, names: &Names) -> Optio
     match fault.item {
         Item::Mask(a, mask) => {
             let masks = ["pre", "add", "del"].into_iter().take_while(|other| *other != mask);
-            let first = 24 + 24 * a as usize;
+            let places = Places::of(file.task.version);
+            let first = places.actions + places.action * a as usize;
             let masks =
                 masks.enumerate().map(|(k, name)| format!(" {name} {}", names.facts_of(word(first + 8 * k))));
             Some(format!("{}{}", show::action_title(a as usize, names), masks.collect::<String>()))

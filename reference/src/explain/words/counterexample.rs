@@ -2,7 +2,7 @@
 //! on the right.
 
 use super::text::{counted, Text};
-use crate::draft::DraftSet;
+use crate::draft::{Draft, DraftSet};
 use crate::explain::counterexample::Counterexample;
 use crate::explain::shape::{sides, Leaf, Sides};
 use crate::file::{Clause, File, Step};
@@ -31,7 +31,7 @@ fn about_action(text: &Text, step: &Step, action: u16) -> Vec<String> {
 fn about_states(text: &Text, sides: &Sides, found: Counterexample) -> Vec<String> {
     let outside = |state| [left(text, sides, state), right(text, sides, state)].concat();
     let inside: Vec<String> =
-        sides.inside().iter().map(|leaf| format!("    in {}", text.set(leaf.entry))).collect();
+        sides.inside().iter().map(|leaf| format!("    in {}", text.having(leaf.entry))).collect();
     let head = |word: &str, state| vec![format!("  {word}{}", text.state(state))];
     let by = |action| {
         let set = sides.bracket.as_ref().map_or(String::new(), |bracket| text.actions(bracket.actions));
@@ -53,7 +53,7 @@ fn about_states(text: &Text, sides: &Sides, found: Counterexample) -> Vec<String
 fn left(text: &Text, sides: &Sides, state: State) -> Vec<String> {
     let bracket = sides.bracket.iter().map(|bracket| format!("    in {}", text.set(bracket.entry)));
     let leaf = |leaf: &Leaf| match leaf.complemented {
-        false => format!("    in {}", text.set(leaf.entry)),
+        false => format!("    in {}", text.having(leaf.entry)),
         true => format!("    in {}, since it is {}", text.set(leaf.entry), missing(text, leaf.base, state)),
     };
     bracket.chain(sides.left.iter().map(leaf)).collect()
@@ -63,7 +63,7 @@ fn left(text: &Text, sides: &Sides, state: State) -> Vec<String> {
 fn right(text: &Text, sides: &Sides, state: State) -> Vec<String> {
     let leaf = |leaf: &Leaf| match leaf.complemented {
         false => format!("    {}", missing(text, leaf.base, state)),
-        true => format!("    not in {}, since it is in {}", text.set(leaf.entry), text.set(leaf.base)),
+        true => format!("    not in {}, since it is in {}", text.set(leaf.entry), text.having(leaf.base)),
     };
     sides.right.iter().map(leaf).collect()
 }
@@ -72,7 +72,10 @@ fn right(text: &Text, sides: &Sides, state: State) -> Vec<String> {
 fn missing(text: &Text, entry: u16, state: State) -> String {
     let why = match &text.draft.state_sets[entry as usize] {
         DraftSet::Empty => "which has no state".into(),
-        DraftSet::Init => format!("which is {} alone", text.state(text.draft.init)),
+        DraftSet::Init if text.draft.unknown == 0 => {
+            format!("which is {} alone", text.state(text.draft.init))
+        }
+        DraftSet::Init => not_initial(text, state),
         DraftSet::Goal => {
             let off = text.names.facts_of(text.draft.goal & !state);
             format!("which wants {off} on as well")
@@ -84,6 +87,15 @@ fn missing(text: &Text, entry: u16, state: State) -> String {
         DraftSet::Progression(..) | DraftSet::Regression(..) => String::new(),
     };
     format!("not in {}, {why}", text.set(entry))
+}
+
+/// The known facts in which the state is no initial one.
+fn not_initial(text: &Text, state: State) -> String {
+    let Draft { init, unknown, .. } = text.draft;
+    let wanted = [(init & !state, "on"), (state & !init & !unknown, "off")];
+    let differing = wanted.into_iter().filter(|(facts, _)| *facts != 0);
+    let words = differing.map(|(facts, word)| format!("{} {word}", text.names.facts_of(facts)));
+    format!("which wants {}", words.collect::<Vec<_>>().join(" and "))
 }
 
 /// The first clause that the state does not meet, counted from 0.

@@ -16,7 +16,7 @@ pub fn words(bytes: &[u8], file: &File, fault: &LayoutFault, names: &Names) -> V
     vec![
         format!("At byte {start}, {width}: {}.", name(bytes, file, fault, names)),
         holds_words(bytes, fault, names),
-        allowed_words(file, fault),
+        allowed_words(file, fault, names),
     ]
 }
 
@@ -35,6 +35,7 @@ fn name(bytes: &[u8], file: &File, fault: &LayoutFault, names: &Names) -> String
         Item::Field("fact count") => "the fact count, n".into(),
         Item::Field("goal") => "the goal mask".into(),
         Item::Field("init") => "the init state".into(),
+        Item::Field("unknown mask") => "the mask of unknown facts".into(),
         Item::Field(field) => format!("the {field}"),
         Item::Mask(action, mask) => {
             format!("{}, its {mask} mask", show::action_title(action as usize, names))
@@ -73,6 +74,10 @@ fn holds_words(bytes: &[u8], fault: &LayoutFault, names: &Names) -> String {
             let high = value & !crate::task::all_facts(facts);
             let (all, high) = (names.facts_of(value), names.facts_of(high));
             format!("It holds {value:#x}: facts {all}, of which the task does not have {high}.")
+        }
+        Allowed::Without(init) => {
+            let (all, both) = (names.facts_of(value), names.facts_of(value & init));
+            format!("It holds {value:#x}: facts {all}, of which init has {both} on.")
         }
         Allowed::Horn | Allowed::TwoLiteral => {
             let negative = bytes[fault.bytes.start + 8..fault.bytes.end].iter();
@@ -113,7 +118,7 @@ fn missing(bytes: &[u8], fault: &LayoutFault) -> String {
     }
 }
 
-fn allowed_words(file: &File, fault: &LayoutFault) -> String {
+fn allowed_words(file: &File, fault: &LayoutFault, names: &Names) -> String {
     match &fault.allowed {
         Allowed::Numbers(range) => numbers_words(file, fault, range),
         Allowed::Above(before) => {
@@ -121,6 +126,9 @@ fn allowed_words(file: &File, fault: &LayoutFault) -> String {
         }
         Allowed::FactsBelow(1) => "It may hold fact 0 only: the task has 1 fact.".into(),
         Allowed::FactsBelow(n) => format!("It may hold facts 0 to {} only: the task has {n} facts.", n - 1),
+        Allowed::Without(init) => {
+            format!("It may hold facts that are off in init only, none of {}.", names.facts_of(*init))
+        }
         Allowed::Horn => "A clause of a Horn set may have at most one positive fact.".into(),
         Allowed::TwoLiteral => "A clause of a two-literal set may have at most two literals.".into(),
         Allowed::Length { .. } => length_words(fault),

@@ -3,6 +3,7 @@
 use super::text::{counted, Text};
 use crate::draft::DraftSet;
 use crate::explain::shape::{Leaf, PairFault, ShapeFault, Side, MANY, MAX_LEAVES, MAX_RIGHT};
+use crate::shape::MAX_UNKNOWN;
 
 impl Side {
     fn name(self) -> &'static str {
@@ -142,6 +143,18 @@ fn too_many_right(text: &Text, leaves: &[Leaf]) -> Vec<String> {
     lines
 }
 
+/// Why init does not do as the leaf that has to stand somewhere, where it stands there.
+fn too_many_inits(text: &Text, leaves: &[Leaf]) -> Option<String> {
+    let is_init = |leaf: &Leaf| text.draft.state_sets[leaf.base as usize] == DraftSet::Init;
+    let unknown = text.draft.unknown.count_ones();
+    leaves.iter().any(is_init).then(|| {
+        format!(
+            "Init does only with at most {MAX_UNKNOWN} unknown facts: here {unknown} are, for {}.",
+            text.init_count()
+        )
+    })
+}
+
 fn no_listed(text: &Text, rule: u8, leaves: &[Leaf]) -> Vec<String> {
     let place = match rule {
         2 => "inside the bracket",
@@ -154,5 +167,6 @@ fn no_listed(text: &Text, rule: u8, leaves: &[Leaf]) -> Vec<String> {
         format!("{place}. There {}", if leaves.is_empty() { "stands no leaf." } else { "stand only:" }),
     ];
     lines.extend(leaves.iter().map(|leaf| moved(text, leaf)));
+    lines.extend(too_many_inits(text, leaves));
     lines
 }

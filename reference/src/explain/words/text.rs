@@ -42,6 +42,34 @@ impl Text<'_> {
         format!("state {} {}", show::state(state), self.names.facts_of(state))
     }
 
+    /// The initial states in words, `state 0 {}` or `any of 4 initial states, {1 2} on or off in state 0 {}`.
+    pub fn inits(&self) -> String {
+        let init = self.state(self.draft.init);
+        match self.draft.unknown {
+            0 => init,
+            some => {
+                format!("any of {}, {} on or off in {init}", self.init_count(), self.names.facts_of(some))
+            }
+        }
+    }
+
+    /// How many initial states there are, `4 initial states`; from 2 to the power 32 on as a power.
+    pub fn init_count(&self) -> String {
+        match self.draft.unknown.count_ones() {
+            unknown @ 32.. => format!("2^{unknown} initial states"),
+            unknown => counted(1 << unknown, "initial state"),
+        }
+    }
+
+    /// A set that a state is in; of several initial states it is one.
+    pub fn having(&self, entry: u16) -> String {
+        let one_of = match self.draft.state_sets[entry as usize] {
+            DraftSet::Init if self.draft.unknown != 0 => format!(", as one of {}", self.init_count()),
+            _ => String::new(),
+        };
+        format!("{}{one_of}", self.set(entry))
+    }
+
     /// A state set, `set 3 explicit 0 1 2`.
     pub fn set(&self, entry: u16) -> String {
         format!("set {entry} {}", show::state_set(&self.draft.state_sets[entry as usize], self.names, FEW))
