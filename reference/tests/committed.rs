@@ -1,5 +1,5 @@
 //! The cases that stand in crates/vectors, so that the proved checker is held to them with no generator at hand: their replies are
-//! those given today, every reply and rule is among them, and so are explicit sets in any order with repeats.
+//! those given today, every reply and rule is among them, and so are explicit sets in any order with repeats, and unknown facts.
 
 use std::collections::BTreeSet;
 use std::path::PathBuf;
@@ -79,6 +79,33 @@ fn states_in_any_order_are_among_them() {
     assert_eq!(limits, [512, 513, 4096, 4097].into());
 }
 
+/// Version 2 with no unknown fact, with a few, with the 12 for which kind 1 gives leave and the 13 for which it gives none; and an
+/// explicit set of 4,096 states in such a file.
+#[test]
+fn unknown_facts_are_among_them() {
+    let (mut seen, mut longest) = (BTreeSet::new(), 0);
+    for case in cases(&read("stdin")) {
+        let Ok(file) = layout::read(&case.bytes) else { continue };
+        if file.task.version == 2 {
+            let reply = case.reply().split(' ').take(2).collect::<Vec<&str>>().join(" ");
+            seen.insert((file.task.unknown.count_ones(), reply));
+            let states = bodies(&case.bytes).into_iter().map(|body| body.len() / 8);
+            longest = longest.max(states.max().unwrap_or(0));
+        }
+    }
+    for unknown in [0, 1, 2, 12] {
+        for reply in ["accepted", "refused 11"] {
+            assert!(seen.contains(&(unknown, reply.to_string())), "{unknown}, {reply}");
+        }
+    }
+    for unknown in [12, 13] {
+        for reply in ["accepted", "refused 10"] {
+            assert!(seen.contains(&(unknown, reply.to_string())), "{unknown}, {reply}");
+        }
+    }
+    assert_eq!(longest, 4096);
+}
+
 #[test]
 fn every_reply_and_rule_is_among_them() {
     let [mut replies, mut numbered, mut rounds, mut small] = [const { BTreeSet::new() }; 4];
@@ -110,11 +137,11 @@ fn every_reply_and_rule_is_among_them() {
         let refusals = numbers.iter().map(|number| format!("refused {number}"));
         refusals.chain(others.iter().map(|other| other.to_string())).collect()
     };
-    let numbers: Vec<u8> = (1..=13).collect();
-    assert_eq!(replies, all(&numbers, &["accepted", "in", "out"]));
-    assert_eq!(numbered, all(&[&numbers[..12], &[18]].concat(), &["accepted"]));
-    assert_eq!(rounds, all(&[&numbers[..12], &[17]].concat(), &["ended", "go on"]));
-    assert_eq!(small, all(&[&numbers[..12], &[19]].concat(), &["accepted"]));
+    let numbers: Vec<u8> = (1..=12).chain([16]).collect();
+    assert_eq!(replies, all(&[&numbers[..], &[13]].concat(), &["accepted", "in", "out"]));
+    assert_eq!(numbered, all(&[&numbers[..], &[18]].concat(), &["accepted"]));
+    assert_eq!(rounds, all(&[&numbers[..], &[17]].concat(), &["ended", "go on"]));
+    assert_eq!(small, all(&[&numbers[..], &[19]].concat(), &["accepted"]));
     assert_eq!(breaches, ["bytes", "states", "steps"].into());
     assert_eq!(passed, (1..=28).collect());
 }
