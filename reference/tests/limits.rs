@@ -177,7 +177,7 @@ fn doubling_entries_are_answered_at_once() {
 
 #[test]
 fn workloads_are_accepted() {
-    for number in 1..=5 {
+    for number in 1..=7 {
         let draft = workload(&mut Random::new(7), number);
         let bytes = draft.encode();
         let start = Instant::now();
@@ -187,6 +187,7 @@ fn workloads_are_accepted() {
             1 => assert_eq!(draft.actions.len(), 256),
             2 | 3 => assert!(draft.facts == 64 && draft.actions.len() == 256),
             4 => assert_eq!((draft.steps.len(), draft.state_sets.len()), (2048, 512)),
+            6 | 7 => initial_states_are_listed(&draft),
             _ => {
                 let DraftSet::Explicit(states) = &draft.state_sets[3] else { panic!("no listed states") };
                 let different = BTreeSet::from_iter(states);
@@ -194,5 +195,20 @@ fn workloads_are_accepted() {
                 assert!(!states.is_sorted());
             }
         }
+    }
+}
+
+/// W1's table with 12 unknown facts: the 4,096 initial states are the listed ones, and without any one of them it is refused.
+fn initial_states_are_listed(draft: &Draft) {
+    let first = workload(&mut Random::new(7), 1);
+    assert_eq!((&draft.actions, draft.goal, draft.facts), (&first.actions, first.goal, first.facts));
+    let DraftSet::Explicit(states) = &draft.state_sets[3] else { panic!("no listed states") };
+    assert_eq!((states.len(), draft.unknown.count_ones(), draft.unknown & draft.init), (4096, 12, 0));
+    assert!(states.is_sorted_by(|a, b| a < b) && states.iter().all(|s| s & !draft.unknown == draft.init));
+    for left_out in [0, 1, 2047, 4094, 4095] {
+        let mut less = draft.clone();
+        let DraftSet::Explicit(states) = &mut less.state_sets[3] else { panic!("no listed states") };
+        states.remove(left_out);
+        assert!(reply(&less).starts_with("refused 11 "), "{left_out}: {}", reply(&less));
     }
 }

@@ -74,7 +74,7 @@ impl Timed {
     }
 }
 
-/// The five workloads, as `reference workload NUMBER 1` writes them.
+/// The workloads, as `reference workload NUMBER 1` writes them.
 pub fn workloads() -> Vec<Timed> {
     let names = [
         "W1: 4,096 listed states, 256 actions",
@@ -82,6 +82,8 @@ pub fn workloads() -> Vec<Timed> {
         "W3: 256 two-literal clauses, 256 actions",
         "W4: 2,048 steps, 512 entries",
         "W5: 3,712 listed states, a tenth of them twice, shuffled, 256 actions",
+        "W6: 4,096 initial states within a list, 256 actions",
+        "W6: 4,096 initial states, 256 actions from them into a list",
     ];
     names.iter().zip(1..).map(|(name, number)| Timed::accepted(*name, &made(number))).collect()
 }
@@ -303,7 +305,7 @@ pub struct Question {
     pub expected: Answer,
 }
 
-/// Listed states, clauses, shuffled states, and regressions over one another as deep as may be asked.
+/// Listed states, clauses, shuffled states, initial states, and regressions over one another as deep as may be asked.
 pub fn questions() -> Vec<Question> {
     let mut all = Vec::new();
     let sets = ["the listed states of W1", "the clauses of W2", "the clauses of W3"].into_iter().zip(1..);
@@ -312,6 +314,10 @@ pub fn questions() -> Vec<Question> {
         let (bytes, state) = (draft.encode(), draft.init);
         all.push(Question { name: name.into(), bytes, entry: 3, state, expected: Answer::In });
     }
+    let initial = made(6);
+    let (bytes, state) = (initial.encode(), initial.init | initial.unknown);
+    let name = "the initial states of W6".into();
+    all.push(Question { name, bytes, entry: 1, state, expected: Answer::In });
     let (bytes, first) = regressions();
     for levels in 1..=4 {
         // Nothing leads into the goal, so every action is tried at each level.

@@ -81,7 +81,8 @@ fn both_give_the_expected_reply_by_the_small_limits() {
 
 /// How many states are within reach.
 fn reached(file: &File) -> usize {
-    let (mut reached, mut open) = (BTreeSet::from([file.task.init]), vec![file.task.init]);
+    let mut reached: BTreeSet<u64> = file.task.inits().collect();
+    let mut open: Vec<u64> = file.task.inits().collect();
     while let Some(s) = open.pop() {
         let after = file.task.actions.iter().filter(|a| a.applies(s)).map(|a| a.after(s));
         open.extend(after.filter(|t| reached.insert(*t)));
@@ -135,13 +136,13 @@ fn stand_in(name: &str, code: &str) -> String {
 }
 
 /// This build as a shared object, as `reference/bench --before` makes one of an earlier build; and objects in the place of a build that
-/// takes no lists of rule numbers, and of one that says 7.
+/// takes no lists of rule numbers, and of ones that say 2 and 7.
 #[test]
 fn an_earlier_build_is_loaded_beside_this_one() {
     let library = concat!(env!("CARGO_MANIFEST_DIR"), "/../../target/staticlib/liblink.a");
     let today = object("today", &["-Wl,--whole-archive", library, "-Wl,--no-whole-archive"]);
-    let [early, refusing] =
-        [("early", "0"), ("refusing", "7l << 32 | 99")].map(|(name, code)| stand_in(name, code));
+    let [early, first, refusing] = [("early", "0"), ("first", "2l << 32 | 4"), ("refusing", "7l << 32 | 99")]
+        .map(|(n, c)| stand_in(n, c));
     let builds = Builds::load(&today, &today).unwrap_or_else(|message| panic!("{message}"));
     let [plain, listed] = without_and_with_list();
     for file in [&deepest(), &plain, &listed] {
@@ -154,12 +155,14 @@ fn an_earlier_build_is_loaded_beside_this_one() {
     let timed = [&plain, &listed].map(|file| compare(Pace::QUICK, file, Some(&mixed)).earlier.is_some());
     assert_eq!(timed, [true, false]);
     assert!(agreement::same(&deepest(), &mixed.before).is_err());
-    // One that says 7 is not timed.
-    let refusing_build = Build::load(&refusing).unwrap_or_else(|message| panic!("{message}"));
-    assert_eq!((refusing_build.check(&plain), agreement::same(&plain, &refusing_build)), (None, Ok(())));
+    // One that says 2 or 7 is not timed.
+    for object in [&first, &refusing] {
+        let build = Build::load(object).unwrap_or_else(|message| panic!("{message}"));
+        assert_eq!((build.check(&plain), agreement::same(&plain, &build)), (None, Ok(())));
+    }
     assert!(Builds::load(&early, &early).is_err() && Builds::load(&today, "/no/such/object.so").is_err());
     assert!(Build::load("/no/such/object.so").is_err());
-    for path in [today, early, refusing] {
+    for path in [today, early, first, refusing] {
         std::fs::remove_file(path).expect("a file of this test");
     }
 }
@@ -184,6 +187,15 @@ fn workloads_are_as_large_as_they_say() {
     assert_eq!((files[3].steps.len(), files[3].state_sets.len()), (2048, 512));
     assert_eq!((lists(&files[4]), files[4].task.actions.len()), (vec![(4083, 3712)], 256));
     assert_eq!(reached(&files[4]), 3712);
+    // W6 has W1's table but for the start: its states are the initial ones, and each statement is of kind 1 where it says so.
+    let entry = |file: &File, step: usize| file.steps[step].entries.map(|e| file.state_sets[e as usize]);
+    for file in &files[5..7] {
+        assert_eq!((file.states.len(), reached(file), file.task.inits().count()), (4096, 4096, 4096));
+        assert_eq!((&file.task.actions, file.task.goal), (&files[0].task.actions, files[0].task.goal));
+    }
+    assert_eq!((files[5].steps[2].rule, entry(&files[5], 2)[0]), (1, StateSet::Init));
+    assert_eq!((files[6].steps[1].rule, entry(&files[6], 1)[0]), (2, StateSet::Progression(1, 0)));
+    assert_eq!(files.len(), 7);
 }
 
 /// How many states each explicit set lists, and how many different ones.

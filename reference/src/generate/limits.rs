@@ -1,5 +1,5 @@
-//! Files at and just over the limits of the format, and the five workloads on which
-//! checkers are timed.
+//! Files at and just over the limits of the format, and the workloads on which checkers
+//! are timed.
 
 use crate::draft::{sample, step, Draft, DraftActions, DraftSet};
 use crate::file::Clause;
@@ -11,7 +11,7 @@ use crate::generate::random::Random;
 use crate::layout::{
     MAX_ACTIONS, MAX_ACTION_SETS, MAX_BYTES, MAX_CLAUSES, MAX_STATES, MAX_STATE_SETS, MAX_STEPS,
 };
-use crate::shape::Method;
+use crate::shape::{Method, MAX_UNKNOWN};
 use crate::task::{Action, Task};
 
 /// A file at a limit, or one over it.
@@ -169,15 +169,17 @@ fn deep_tree(random: &mut Random, over: usize) -> Vec<u8> {
 }
 
 /// The timed workloads: 1 many listed states and actions, 2 a large Horn set, 3 a large
-/// two-literal set, 4 many rule steps over many entries, 5 states in the order found. All are
-/// accepted.
+/// two-literal set, 4 many rule steps over many entries, 5 states in the order found, 6 many initial
+/// states within a list, 7 the same with actions leading from them into it. All are accepted.
 pub fn workload(random: &mut Random, number: usize) -> Draft {
     match number {
         1 => listed_cube(random, 12, MAX_ACTIONS),
         2 => large_clauses(random, Method::Horn),
         3 => large_clauses(random, Method::TwoCnf),
         4 => many_rules(random, MAX_STATE_SETS, MAX_STEPS),
-        _ => found::cube(random),
+        5 => found::cube(random),
+        6 => initial_cube(random, false),
+        _ => initial_cube(random, true),
     }
 }
 
@@ -188,6 +190,40 @@ pub fn listed_cube(random: &mut Random, free: usize, actions: usize) -> Draft {
     let init = random.pick(&states);
     let actions = (0..actions).map(|_| cube.action(random)).collect();
     cube.certificate(random, init, actions, states)
+}
+
+/// The first workload's table with its free facts unknown, so that every listed state is an initial one. That no action leads out of
+/// them is shown of the initial states, by the list (where it says `led`) or by their clauses; what holds of the initial states then
+/// holds of the list, which is within them.
+fn initial_cube(random: &mut Random, led: bool) -> Draft {
+    let mut d = listed_cube(random, MAX_UNKNOWN as usize, MAX_ACTIONS);
+    let DraftSet::Explicit(states) = &d.state_sets[3] else { unreachable!("the sample's form") };
+    let (first, last) = (states[0], states[states.len() - 1]);
+    (d.version, d.init, d.unknown) = (2, first, first ^ last);
+    let bracket = d.state_sets.len() as u16;
+    d.state_sets.push(DraftSet::Progression(1, 0));
+    // Entries: 1 init, 2 goal, 3 the list, 4 = 3[0], 5 = 3+0, 6 = 3&2.
+    d.steps.truncate(1);
+    match led {
+        true => d.steps.push(step(2, 1, &[bracket, 5], &[])),
+        false => d.steps.extend([
+            step(2, 1, &[bracket, 1], &[]),
+            step(1, 1, &[1, 5], &[]),
+            step(22, 1, &[bracket, 5], &[1, 2]),
+        ]),
+    }
+    let shown = d.steps.len() as u16 - 1;
+    d.steps.extend([
+        step(1, 1, &[3, 1], &[]),
+        step(25, 1, &[4, 5], &[shown, shown + 1]),
+        step(1, 1, &[6, 0], &[]),
+        step(8, 0, &[6], &[shown + 3, 0]),
+        step(9, 0, &[3], &[shown + 2, 0, shown + 4]),
+        step(1, 1, &[1, 3], &[]),
+        step(8, 0, &[1], &[shown + 6, shown + 5]),
+        step(13, 3, &[], &[shown + 7]),
+    ]);
+    d
 }
 
 /// Some of 64 facts are free and the others fixed; the goal has one that is fixed and off.
