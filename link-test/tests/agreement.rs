@@ -1,7 +1,7 @@
 //! The linked checker replies as the reference checker does.
 
 use link_test::{answer_code, ask, check, check_numbered, check_small, reply_code, round, round_code};
-use reference::draft::{mend_length, DraftSet};
+use reference::draft::{mend_length, step, Draft, DraftSet};
 use reference::generate::limits::shuffle;
 use reference::generate::listed::listed;
 use reference::generate::numbered::numbered;
@@ -9,6 +9,8 @@ use reference::generate::random::Random;
 use reference::generate::relisted::{alike, relisted};
 use reference::generate::rounds::rounds;
 use reference::generate::small::small;
+use reference::generate::twins::{twin, twinned, twins};
+use reference::generate::unknown::unknown;
 use reference::generate::{cases, Call, Case};
 use reference::task::Action;
 use reference::Reply;
@@ -65,7 +67,7 @@ fn sample(name: &str) -> Vec<u8> {
 /// Each generated file is checked, and asked about whether or not its case is a question.
 #[test]
 fn generated_cases() {
-    let mut refused = [0; 14];
+    let mut refused = [0; 17];
     let (mut accepted, mut inside, mut outside) = (0, 0, 0);
     let mut random = Random::new(3);
     for (index, case) in cases(2, 4000).enumerate() {
@@ -86,7 +88,7 @@ fn generated_cases() {
         }
     }
     assert!(accepted >= 500 && inside >= 200 && outside >= 200, "{accepted} {inside} {outside}");
-    assert!(refused[1..].iter().all(|count| *count >= 5), "{refused:?}");
+    assert!((1..=13).chain([16]).all(|number| refused[number] >= 5), "{refused:?}");
 }
 
 /// Every function on one file: a check, one by the small limits, rounds from each step of a few, and questions.
@@ -174,6 +176,173 @@ fn lists_at_the_limits() {
     }
 }
 
+/// Files with unknown facts: certificates of all initial states, near misses, masks with faults, 12 unknown facts and 13.
+#[test]
+fn unknown_cases() {
+    let (mut accepted, mut refused) = (0, [0; 20]);
+    for (index, case) in unknown(16, 6000).enumerate() {
+        let what = format!("case {index}");
+        let asked = match case.call {
+            Call::Ask(entry, state) => (entry, state),
+            _ => (1, index as u64 % 16),
+        };
+        match same_all(&case.bytes, &[asked, (1, 0)], &what) {
+            0 => accepted += 1,
+            code => refused[(code >> 32) as usize] += 1,
+        }
+        let list: Vec<u8> = (1..=28).collect();
+        assert_eq!(same_numbered(&case.bytes, &list, &what), check(&case.bytes), "{what}");
+    }
+    assert!(accepted >= 2000, "{accepted} {refused:?}");
+    assert!([3, 4, 5, 10, 11, 16].iter().all(|number| refused[*number] >= 100), "{refused:?}");
+}
+
+/// The sample as version 2 with this start and these unknown facts.
+fn second(init: u64, unknown: u64) -> Draft {
+    Draft { version: 2, init, unknown, ..reference::draft::sample() }
+}
+
+/// The sample as version 2: every start and every mask of two facts and of a third, which is not there; and every byte of the mask changed.
+#[test]
+fn masks_of_the_sample() {
+    let questions = [0, 1, 2, 3, 4].map(|state| (1, state));
+    assert_eq!(second(0, 0).encode(), twin(&sample("sample")).expect("a twin"));
+    for (init, mask) in (0..8).flat_map(|init| (0..8).map(move |mask| (init, mask))) {
+        let code = same_all(&second(init, mask).encode(), &questions, "the sample with unknown facts");
+        let expected = match (init, mask) {
+            (4.., _) => 5 << 32 | 6,
+            (_, 4..) => 5 << 32 | 14,
+            _ if init & mask != 0 => 16 << 32 | 14,
+            _ if init | mask == 3 => 11 << 32 | 5,
+            _ => 0,
+        };
+        assert_eq!(code, expected, "{init} {mask}");
+        for state in 0..4 {
+            let answer = ask(&second(init, mask).encode(), 1, state);
+            let refused = expected >> 32 == 5 || expected >> 32 == 16;
+            assert_eq!(
+                answer,
+                if refused { expected } else { (state & !mask == init) as u64 },
+                "{init} {mask}"
+            );
+        }
+    }
+    let mut file = second(1, 0).encode();
+    for at in 14..22 {
+        for byte in 0..=255 {
+            file[at] = byte;
+            same_all(&file, &questions, "a mask with another byte");
+        }
+        file[at] = 0;
+    }
+}
+
+/// 16 comes after 5 at the mask and before everything behind it: a bad goal, too many actions, the file's end.
+#[test]
+fn order_of_16() {
+    let overlap = 16 << 32 | 14;
+    let code = |draft: &Draft| same_all(&draft.encode(), &[(1, 0)], "the order of 16");
+    assert_eq!(code(&Draft { goal: 4, ..second(1, 1) }), overlap);
+    assert_eq!(code(&Draft { goal: 4, ..second(1, 2) }), 5 << 32 | 22);
+    assert_eq!(code(&second(1, 5)), 5 << 32 | 14);
+    assert_eq!(code(&Draft { actions: vec![Action::NOTHING; 257], ..second(1, 1) }), overlap);
+    assert_eq!(code(&Draft { actions: vec![Action::NOTHING; 257], ..second(1, 2) }), 4 << 32 | 30);
+    for (draft, known) in [(second(0, 1), true), (second(1, 1), false)] {
+        let whole = draft.encode();
+        for length in 0..whole.len() {
+            let mut part = whole[..length].to_vec();
+            same_all(&part, &[(1, 0)], "cut");
+            mend_length(&mut part);
+            let code = same_all(&part, &[(1, 0)], "cut with a length");
+            match length {
+                14..=21 => assert_eq!(code, 3 << 32 | 14, "{length}"),
+                22.. if !known => assert_eq!(code, overlap, "{length}"),
+                22..=29 => assert_eq!(code, 3 << 32 | 22, "{length}"),
+                30 | 31 => assert_eq!(code, 3 << 32 | 30, "{length}"),
+                _ => assert_ne!(code, 0, "{length}"),
+            }
+        }
+    }
+}
+
+/// A file over 64 facts, of which so many from fact 1 on are unknown, that is accepted whatever they are; step 7 says that the left set
+/// is within the right one. Sets: 3 Horn (-0), which is what the proof needs, 7 the first two initial states, 8 one that is none, 9 = 7+1,
+/// 10 = 1&7, 11 = 1[0], 12 = ~0, 13 = 7+12, 14 = [0]7, 15 = 14&1, 16 = 10[0].
+fn wide(unknown: u32, rule: u8, left: u16, right: u16) -> Vec<u8> {
+    let mask = reference::task::all_facts(unknown as u8) << 1;
+    let mut d = Draft { facts: 64, goal: 1, ..second(0, mask) };
+    d.actions = vec![Action { pre: 0, add: 0, del: 2 }];
+    d.state_sets[3] = DraftSet::Horn(vec![reference::file::Clause { positive: 0, negative: 1 }]);
+    d.state_sets.extend([
+        DraftSet::Explicit(vec![0, mask & 2]),
+        DraftSet::Explicit(vec![1]),
+        DraftSet::Union(7, 1),
+        DraftSet::Intersection(1, 7),
+        DraftSet::Progression(1, 0),
+        DraftSet::Complement(0),
+        DraftSet::Union(7, 12),
+        DraftSet::Regression(7, 0),
+        DraftSet::Intersection(14, 1),
+        DraftSet::Progression(10, 0),
+    ]);
+    d.steps.insert(7, step(rule, 1, &[left, right], &[]));
+    d.encode()
+}
+
+/// Kind 1 gives leave with 12 unknown facts and not with 13; another leaf gives it with any number, and so do clauses.
+#[test]
+fn leave_up_to_12_unknown_facts() {
+    let (shape, untrue) = (10 << 32 | 7, 11 << 32 | 7);
+    for (rule, left, right, few, many) in [
+        (1, 1, 9, 0, shape),
+        (1, 1, 7, untrue, shape),
+        (1, 1, 13, 0, 0),
+        (1, 10, 7, 0, 0),
+        (1, 10, 8, untrue, untrue),
+        (1, 7, 1, 0, 0),
+        (1, 8, 1, untrue, untrue),
+        (2, 11, 9, 0, shape),
+        (2, 11, 7, untrue, shape),
+        (2, 11, 13, 0, shape),
+        (2, 16, 7, 0, 0),
+        (2, 16, 8, untrue, untrue),
+        (3, 15, 9, 0, shape),
+        (3, 14, 9, shape, shape),
+        (1, 1, 3, 0, 0),
+        (2, 11, 3, 0, 0),
+        (2, 11, 1, 0, 0),
+        (4, 1, 3, shape, shape),
+        (4, 7, 1, shape, shape),
+    ] {
+        for unknown in [3, 11, 12, 13, 14, 32, 63] {
+            let file = wide(unknown, rule, left, right);
+            let code = same_all(&file, &[(1, 0), (1, 2), (1, 3), (9, 2), (15, 2)], "leave");
+            let expected = if unknown <= 12 { few } else { many };
+            assert_eq!(code, expected, "{unknown} unknown facts: B{rule} {left} < {right}");
+        }
+    }
+}
+
+/// As many initial states as a list may hold, all of them listed; and with any one of them, or a fact of the mask, left out or changed.
+#[test]
+fn most_initial_states() {
+    let mut random = Random::new(17);
+    for number in [6, 7] {
+        let draft = reference::generate::limits::workload(&mut Random::new(1), number);
+        assert_eq!(same_reply(&draft.encode(), "the most initial states"), 0);
+        for _ in 0..20 {
+            let mut less = draft.clone();
+            let DraftSet::Explicit(states) = &mut less.state_sets[3] else { panic!("no list") };
+            states.remove(random.below(states.len()));
+            assert_eq!(same_reply(&less.encode(), "an initial state left out") >> 32, 11);
+            let fewer = Draft { unknown: draft.unknown & !random.bit(draft.unknown), ..draft.clone() };
+            same_reply(&fewer.encode(), "fewer initial states");
+            let more = Draft { unknown: draft.unknown | random.bit(!draft.init), ..draft.clone() };
+            same_reply(&more.encode(), "more initial states");
+        }
+    }
+}
+
 /// What the proved checker says in words, for a check, a round or a question alike.
 fn said(code: u64) -> String {
     match code >> 32 {
@@ -182,26 +351,41 @@ fn said(code: u64) -> String {
     }
 }
 
+/// Both checkers on one case.
+fn same_call(case: &Case, what: &str) -> u64 {
+    match &case.call {
+        Call::Check => same_reply(&case.bytes, what),
+        Call::Small => same_small(&case.bytes, what),
+        Call::Numbered(list) => same_numbered(&case.bytes, list, what),
+        Call::Ask(entry, state) => same_answer(&case.bytes, *entry, *state, what),
+        Call::Round(from, count) => same_round(&case.bytes, *from, *count, what),
+    }
+}
+
 /// Files that differ in the order of listed states alone: the replies to each pair are alike.
 #[test]
 fn relisted_cases() {
     let (mut elsewhere, cases) = (0, relisted(15, 4000).collect::<Vec<Case>>());
     for (index, pair) in cases.chunks(2).enumerate() {
-        let codes = [&pair[0], &pair[1]].map(|case| {
-            let (file, what) = (&case.bytes[..], format!("pair {index}"));
-            match &case.call {
-                Call::Check => same_reply(file, &what),
-                Call::Small => same_small(file, &what),
-                Call::Numbered(list) => same_numbered(file, list, &what),
-                Call::Ask(entry, state) => same_answer(file, *entry, *state, &what),
-                Call::Round(from, count) => same_round(file, *from, *count, &what),
-            }
-        });
+        let codes = [&pair[0], &pair[1]].map(|case| same_call(case, &format!("pair {index}")));
         let words = codes.map(said);
         assert!(alike([&pair[0], &pair[1]], words.each_ref().map(|one| &**one)), "pair {index}: {words:?}");
         elsewhere += (codes[0] != codes[1]) as usize;
     }
     assert!(elsewhere >= 50, "{elsewhere}");
+}
+
+/// Twins of versions 1 and 2: the second reply follows from the first.
+#[test]
+fn twins_of_both_versions() {
+    let (mut moved, cases) = (0, twins(18, 3000).collect::<Vec<Case>>());
+    for (index, pair) in cases.chunks(2).enumerate() {
+        let codes = [&pair[0], &pair[1]].map(|case| same_call(case, &format!("pair {index}")));
+        let words = codes.map(said);
+        assert!(twinned([&pair[0], &pair[1]], words.each_ref().map(|one| &**one)), "pair {index}: {words:?}");
+        moved += (codes[0] != codes[1]) as usize;
+    }
+    assert!(moved >= 200, "{moved}");
 }
 
 /// Files with a caller's own rule numbers, and lists with faults.
@@ -274,7 +458,7 @@ fn lists() {
 /// Files at the small limits and past them, with faults before and behind; then files of any sort.
 #[test]
 fn small_cases() {
-    let (mut accepted, mut refused, mut behind) = (0, [0; 20], [0; 13]);
+    let (mut accepted, mut refused, mut behind) = (0, [0; 20], [0; 17]);
     for (index, case) in small(11, 6000).enumerate() {
         match same_small(&case.bytes, &format!("case {index}")) {
             0 => accepted += 1,
@@ -396,8 +580,10 @@ fn random_bytes() {
         if length >= 5 {
             file[..4].copy_from_slice(&(length as u32 - 4).to_be_bytes());
             same_reply(&file, "random with a length");
-            file[4] = 1;
-            same_reply(&file, "random with a length and version");
+            for version in [1, 2] {
+                file[4] = version;
+                same_reply(&file, "random with a length and version");
+            }
             same_answer(&file, random.below(8) as u64, random.next(), "random");
         }
     }
