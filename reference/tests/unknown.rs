@@ -523,7 +523,7 @@ fn explanations() {
     has(
         &second(1),
         &[
-            "leads from init, any of 2 initial states, {0} on or off in state 0 {}, to a goal state",
+            "leads from init, any of 2 initial states (state 0 {} with {0} on or off), to a goal state",
             "from an initial state to a goal",
         ],
     );
@@ -582,4 +582,17 @@ fn rules_with_init() {
     assert_eq!(reply(&d), "refused 9 7");
     d.action_sets.push(DraftActions::All);
     assert_eq!(reply(&d), "refused 9 7");
+}
+
+/// Of the samples one is safe from both initial states, and of the other one is not, which a look at init alone does not find.
+#[test]
+fn the_samples() {
+    let read = |text| parse(text).expect("a text");
+    let delivered = read(include_str!("../../samples/delivered.txt"));
+    let on = read(include_str!("../../samples/delivered_on_refused_11.txt"));
+    let forbidden = |d: &Draft| reach(d).iter().filter(|state| d.goal & !**state == 0).count();
+    assert_eq!((reply(&delivered), forbidden(&delivered)), ("accepted".into(), 0));
+    assert!(reply(&on) == "refused 11 5" && forbidden(&on) > 0);
+    let off = Draft { unknown: 0, ..on };
+    assert_eq!((reply(&off), forbidden(&off)), ("accepted".into(), 0));
 }

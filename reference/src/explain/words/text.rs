@@ -42,15 +42,14 @@ impl Text<'_> {
         format!("state {} {}", show::state(state), self.names.facts_of(state))
     }
 
-    /// The initial states in words, `state 0 {}` or `any of 4 initial states, {1 2} on or off in state 0 {}`.
+    /// The initial states in words, `state 0 {}` or `any of 4 initial states (state 0 {} with {1 2} on or off)`.
     pub fn inits(&self) -> String {
         let init = self.state(self.draft.init);
-        match self.draft.unknown {
-            0 => init,
-            some => {
-                format!("any of {}, {} on or off in {init}", self.init_count(), self.names.facts_of(some))
-            }
+        if self.draft.unknown == 0 {
+            return init;
         }
+        let unknown = self.names.facts_of(self.draft.unknown);
+        format!("any of {} ({init} with {unknown} on or off)", self.init_count())
     }
 
     /// How many initial states there are, `4 initial states`; from 2 to the power 32 on as a power.
