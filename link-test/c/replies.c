@@ -1,5 +1,6 @@
-/* The proved checker from C, and from C++: what it replies to files, to changes of the sample, to states in another order, by the small
-   limits, to lists of rule numbers, in rounds and to questions, printed for comparison with `expected`. The first file is the sample. */
+/* The proved checker from C, and from C++: what it replies to files, to changes of the sample, to states in another order, to unknown
+   facts, by the small limits, to lists of rule numbers, in rounds and to questions, printed for comparison with `expected`. The first
+   file is the sample. */
 #include "certificate.h"
 
 #include <stdio.h>
@@ -8,8 +9,16 @@
 
 enum { LIMIT = 65537, SMALL = 16384, RULES = 28, STEP = 12 };
 
-/* Places in the sample: the count of its action sets and their end, its list of states, its step count and steps. */
-enum { SAMPLE_ACTION_SETS = 72, SAMPLE_STATE_SETS = 77, SAMPLE_LIST = 88, SAMPLE_COUNT = 136, SAMPLE_STEPS = 138 };
+/* Places in the sample: where version 2 has its mask, the count of its action sets and their end, its list of states, its step count and
+   steps. */
+enum {
+    SAMPLE_MASK = 14,
+    SAMPLE_ACTION_SETS = 72,
+    SAMPLE_STATE_SETS = 77,
+    SAMPLE_LIST = 88,
+    SAMPLE_COUNT = 136,
+    SAMPLE_STEPS = 138
+};
 
 /* A change of the sample: one byte, for each refusal that one byte makes; `print_orders` has 7. */
 static const struct change {
@@ -138,6 +147,34 @@ static void print_orders(const uint8_t *sample, size_t length) {
     print_reply("actions 0 1", certificate_check(file, longer));
 }
 
+/* The sample as version 2, with a mask of unknown facts after the start: no fact, one, both, one that is on in the start, one that there is
+   not, and this with a forbidden mask of such a fact. */
+static void print_unknown(const uint8_t *sample, size_t length) {
+    static uint8_t file[LIMIT];
+    static const uint8_t none[8] = {0};
+    size_t longer;
+    memcpy(file, sample, length);
+    longer = insert(file, length, SAMPLE_MASK, none, sizeof none);
+    file[4] = 2;
+    print_reply("version 2", certificate_check(file, longer));
+    print_answer("state 1 in set 1", certificate_ask(file, longer, 1, 1));
+    file[SAMPLE_MASK + 7] = 1;
+    print_reply("fact 0 unknown", certificate_check(file, longer));
+    print_reply("small, fact 0 unknown", certificate_check_small(file, longer));
+    print_round("8 steps, fact 0 unknown", certificate_round(file, longer, 0, 8));
+    print_answer("state 1 in set 1, fact 0 unknown", certificate_ask(file, longer, 1, 1));
+    print_answer("state 2 in set 1, fact 0 unknown", certificate_ask(file, longer, 1, 2));
+    file[SAMPLE_MASK + 7] = 3;
+    print_reply("facts 0 and 1 unknown", certificate_check(file, longer));
+    file[SAMPLE_MASK - 1] = 1;
+    print_reply("fact 0 on in the start and unknown", certificate_check(file, longer));
+    print_answer("a question about that file", certificate_ask(file, longer, 1, 1));
+    file[SAMPLE_MASK + 15] = 7;
+    print_reply("with a forbidden fact 2 as well", certificate_check(file, longer));
+    file[SAMPLE_MASK + 7] = 5;
+    print_reply("fact 2 unknown", certificate_check(file, longer));
+}
+
 /* The sample with zeros after it, at each small limit and one past it: bytes; states that the length of its list says; steps that its
    count says. */
 static void print_small(const uint8_t *sample, size_t length) {
@@ -248,6 +285,7 @@ int main(int count, char **paths) {
     length = read_file(paths[1], bytes);
     print_changes(bytes, length);
     print_orders(bytes, length);
+    print_unknown(bytes, length);
     print_small(bytes, length);
     print_numbered(bytes, length);
     print_rounds(bytes, length);

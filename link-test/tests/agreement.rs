@@ -617,6 +617,8 @@ fn samples() {
         "two_literal",
         "two_lists",
         "found",
+        "delivered",
+        "delivered_on_refused_11",
         "regression",
         "listed_actions_refused_9",
         "false_actions_refused_11",
