@@ -17,7 +17,7 @@ use Rattle.certificate.specs.declared.BasicEntry.the-variants.{Empty, Init, Goa
 use Rattle.certificate.specs.Known.{Known, decoded}
 use Rattle.certificate.proofs.KnownLaws.{read-file, read-ordered}
 use Rattle.meaning.specs.File.{File}
-use Rattle.meaning.specs.Shapes.{kindAt}
+use Rattle.meaning.specs.Shapes.{kindAt, listsInit}
 use Rattle.meaning.specs.Writing.{FitsAction}
 use Rattle.meaning.proofs.Order as order
 use Rattle.counterexample.specs.Counter.{Asked}
@@ -71,10 +71,10 @@ module _ (bytes : List ℕ) (index : List ℕ) (k : Known bytes index) where
   orderly xs b = each-leaf (λ y. Orderly bytes index (y .set)) xs b (λ y l _. limits-orderly bytes index (f .task .facts) (y .set) l)
 
   -- a set whose states are listed, within the file's facts
-  lists : (v : BasicEntry) → WithinLimits bytes index (f .task .facts) v → T (mayAnchor v) → ListsStates bytes ends v
+  lists : (v : BasicEntry) → WithinLimits bytes index (f .task .facts) v → T (mayAnchor (listsInit f) v) → ListsStates bytes ends v
   unfolding endsOf
   lists Empty l w = tt
-  lists Init l w = read-file bytes (k .read) .task .init
+  lists Init l w = let h = read-file bytes (k .read) .task in (h .init, h .unknown)
   lists Goal l w = absurd w
   lists (Explicit s) l w = l .1
   lists (Horn s) l w = absurd w
@@ -133,7 +133,7 @@ module _ (bytes : List ℕ) (index : List ℕ) (k : Known bytes index) where
     anchor : g .listed ≡ true → Anchored bytes ends (leafIn left (g .anchor))
     anchor q =
         let w = h .anchored q in
-        let P : Leaf → Type 0 = λ y. T (mayAnchor (y .set)) → ListsStates bytes ends (y .set) in (
+        let P : Leaf → Type 0 = λ y. T (mayAnchor (listsInit f) (y .set)) → ListsStates bytes ends (y .set) in (
           w .2,
           each-at P left (g .«left_count») fewer-left (in-left P (each-leaf P xs (h .basic-left) (λ y l _. lists (y .set) l)))
               (g .anchor) (w .0) (w .1),

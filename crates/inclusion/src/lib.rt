@@ -11,6 +11,7 @@ use lookup::actions;
 use shapes::shape::gather;
 use task::Action;
 use task::Ends;
+use task::few_unknown;
 ghost use mathlib.Core.Path.{_≡_};
 ghost use mathlib.Core.Logic.{_↔_};
 ghost use mathlib.Core.Bool.{true};
@@ -144,7 +145,8 @@ pub fn decide(file: &[u8], index: &Index, ends: Ends, rule: u8, e: u16, d: u16) 
     }
     let mut left = [0u64; 24];
     let mut right = [0u64; 16];
-    let g = gather(file, index, rule, e, d, &mut left, &mut right);
+    let few = few_unknown(ends);
+    let g = gather(file, index, few, rule, e, d, &mut left, &mut right);
     if g.permitted {
         return verdict_on(is_countered(file, index, ends, rule, &left, &right, g));
     }

@@ -8,6 +8,7 @@ use lib.Dec.{T, ltb}
 use borrow.Author.Needs.{needs}
 use borrow.Author.Tests.{not-false}
 use Rattle.task.proofs.Tests.{holds}
+use Rattle.certificate.specs.Views.{actionsIn}
 use Rattle.certificate.proofs.KnownLaws.{read-file}
 use Rattle.actions.specs.Marks.{marked}
 use Rattle.actions.proofs.SearchLaws.{looking-past, looking-found, looking-either}
@@ -29,10 +30,11 @@ wanted : (c : tie.After-action-set)
 wanted c = holds (sym (c .before .before .is-marked .ensures) ∙ not-false _ (c .before .if1 .left))
 
 first-marks-requires : tie.Need-first-marks-requires
+unfolding actionsIn
 first-marks-requires c κs =
     let here = c .before .before .before in
     let s = here .before .before .before .before .before .before in
-    subst (λ (n : ℕ). n ≤ 256) (sym (c .action-count .ensures)) (read-file _ (s .pre .0 .read) .task .few-actions)
+    subst (λ (n : ℕ). n ≤ 256) (λ i. sym (c .actions .ensures) i .count) (read-file _ (s .pre .0 .read) .task .few-actions)
 
 with-mark-requires : tie.Need-with-mark-requires
 with-mark-requires c κs =
@@ -49,13 +51,14 @@ with-mark-requires-2 c κs =
     omega arith
 
 returns-2 : tie.Need-returns-2
+unfolding actionsIn
 returns-2 c =
     let here = c .before .before .before .before .before in
     let s = here .before .before .before .before .before .before in
     let z = c .before .before .before .enum-told .given .1 in
     let g = all-in _ _ (s .pre .0) (s .args .e) (s .pre .1 .0) _ (here .action-set .ensures) z in
     looking-found _ _ (s .args .e) _ _ (s .pre .1 .1) (wanted here) _ (λ i l.
-    let first = c .before .first-marks .ensures i l ∙ ap (ltb i) (c .before .before .action-count .ensures) ∙ sym (g i) in
+    let first = c .before .first-marks .ensures i l ∙ ap (ltb i) (λ j. c .before .before .actions .ensures j .count) ∙ sym (g i) in
     c .united .ensures i l ∙ ap (λ (x : Bool). marked (s .args .search .found) i || x) first)
 
 returns-3 : tie.Need-returns-3

@@ -13,6 +13,7 @@ use Rattle.certificate.specs.declared.StateEntry.{StateEntry}
 use Rattle.meaning.specs.File.{StateSet, File, stateSetAt}
 use lib.ListN.{length}
 use Rattle.task.specs.Inner.{endsOf}
+use Rattle.certificate.specs.Views.{actionsIn}
 use Rattle.certificate.specs.Known.{Known, decoded}
 use Rattle.meaning.specs.Writing.{FitsStateSet}
 use Rattle.certificate.proofs.KnownLaws.{read-file}
@@ -28,7 +29,7 @@ use Rattle.holding.proofs.try_each_action.Reads as try-each-action
 use Rattle.holding.proofs.try_each_action.Kinds as try-each-action-kinds
 use Rattle.holding.proofs.+member+try_each_action.Lts-try_each_action as try-each-action-lts
 use Rattle.lookup.proofs.action.Reads as action-reads
-use Rattle.lookup.proofs.action_count.Reads as action-count-reads
+use Rattle.lookup.proofs.actions.Reads as actions-reads
 use Rattle.lookup.proofs.state_set.Reads as state-set-reads
 use Rattle.actions.proofs.action_marks.Reads as action-marks-reads
 use Rattle.membership.proofs.set_holds.Reads as set-holds-reads
@@ -73,8 +74,8 @@ module _ (t : ℕ) where
   try-calls = (
     action-marks-reads.Asked,
     action-marks-reads.Learnt,
-    action-count-reads.Asked,
-    action-count-reads.Learnt,
+    actions-reads.Asked,
+    actions-reads.Learnt,
     action-reads.Asked,
     action-reads.Learnt,
     is-marked-reads.Asked,
@@ -200,18 +201,20 @@ module _ (t : ℕ) where
   -- ---- try_each_action
 
   abbrev Inv-loop : try-each-action-lts.InvT-loop
-  Inv-loop file index ends e a s marks count i₀ i =
+  Inv-loop file index ends e a s marks all count i₀ i =
       (i ≤ count) × NoneOf (decoded file .task) (inSet (decoded file) e) (inActions (decoded file) a) s i
 
   abbrev μ-loop : try-each-action-lts.MeasureT-loop
-  μ-loop file index ends e a s marks count i₀ i = count - i
+  μ-loop file index ends e a s marks all count i₀ i = count - i
 
   -- an action's number fits the marks
   few : try-each-action-lts.Need-is-marked-requires try-calls try-at try-each-action.Post Inv-loop μ-loop
+  unfolding actionsIn
   few c κs =
       let v = c .before .before .before in
       let h = read-file _ (v .before .before .before .pre .1 .0 .0 .read) .task .few-actions in
-      omega (arith, v .action-count .ensures)
+      let n : v .actions .result .count ≡ _ = λ i. v .actions .ensures i .count in
+      omega (arith, n)
 
   -- the round's action
   abbrev Round : Type 0
@@ -233,10 +236,11 @@ module _ (t : ℕ) where
   try-requires c κs = let s = start (c .before .before) in (omega (arith, s .pre .0), (s .pre .1 .0, s .pre .1 .1 .0))
 
   found-returns : try-each-action-lts.Need-returns try-calls try-at try-each-action.Post Inv-loop μ-loop
+  unfolding actionsIn
   found-returns c =
       let v = c .before .before .before .before in
       let m = v .before .before .before .before in
-      one-leads _ _ _ _ (m .loop .i) _ (m .before .action-count .ensures) (search needs)
+      one-leads _ _ _ _ (m .loop .i) _ (λ i. m .before .actions .ensures i .count) (search needs)
       (round v .led (c .before .before .before .if1 .taken) _ _ (c .before .before .after .ensures) (c .before .member .ensures)
       ∙ c .if2 .taken)
 
@@ -250,10 +254,11 @@ module _ (t : ℕ) where
       )
 
   none-returns : try-each-action-lts.Need-returns-2 try-calls try-at try-each-action.Post Inv-loop μ-loop
+  unfolding actionsIn
   none-returns c =
       let m = c .before in
-      let e : m .loop .i ≡ m .before .action-count .result = omega arith in
-      none-leads _ _ _ _ (m .loop .i) (e ∙ m .before .action-count .ensures) (m .loop .inv .1)
+      let e : m .loop .i ≡ m .before .actions .result .count = omega arith in
+      none-leads _ _ _ _ (m .loop .i) (e ∙ λ i. m .before .actions .ensures i .count) (m .loop .inv .1)
 
 pub +member+try-each-action-spec : {M : Type 1} → statement M
 +member+try-each-action-spec =

@@ -7,6 +7,9 @@ use Prim.Native.Nat.{ℕ, _<_}
 use native.Mathlib.Omega.{arith}
 use lib.ListN.{length}
 use borrow.Author.Needs.{needs}
+use Rattle.task.specs.Inner.{fewUnknown}
+use Rattle.task.proofs.Names.{few-ends}
+use Rattle.meaning.specs.Shapes.{listsInit}
 use Rattle.certificate.specs.Known.{decoded}
 use Rattle.certificate.proofs.KnownLaws.{read-ordered, read-bounded}
 use Rattle.certificate.proofs.IndexLaws.{zeros}
@@ -28,16 +31,18 @@ returns c =
     ∙ ap (λ (r : ℕ). verdictOf (decoded (s .args .file .now)) r (s .args .e) (s .args .d)) (sym (c .before .before .if1 .taken))
 
 gather-requires : tie.Need-gather-requires
+unfolding listsInit
 gather-requires c κs =
-    let s = c .before .before .before .before in
-    let n = c .before .before .if1 .left in
+    let s = c .before .before .before .before .before in
+    let n = c .before .before .before .if1 .left in
     let h = s .pre .1 .0 in
-    (s .pre .0 .0, ((h .0, omega arith), zeros 16))
+    let few = c .before .before .few-unknown .ensures ∙ ap fewUnknown (s .pre .0 .1) ∙ sym (few-ends _) in
+    ((s .pre .0 .0, few), ((h .0, omega arith), zeros 16))
 
 is-countered-requires : tie.Need-is-countered-requires
 is-countered-requires c κs =
     let d = c .before .before .before in
-    let s = d .before .before .before .before .before in
+    let s = d .before .before .before .before .before .before in
     let p = c .before .before .if2 .taken in
     let g = d .gather .ensures in
     let h = g .1 p in
@@ -49,10 +54,10 @@ is-countered-requires c κs =
 returns-2 : tie.Need-returns-2
 returns-2 c =
     let d = c .before .before .before .before .before in
-    let s = d .before .before .before .before .before in
+    let s = d .before .before .before .before .before .before in
     let g = d .gather .ensures in
     let p = c .before .before .before .before .if2 .taken in
-    let n = d .before .before .before .if1 .left in
+    let n = d .before .before .before .before .if1 .left in
     let l = s .pre .1 .0 in
     let k = s .pre .0 .0 in
     let h = g .1 p in
@@ -63,8 +68,8 @@ returns-2 c =
 
 returns-3 : tie.Need-returns-3
 returns-3 c =
-    let s = c .before .before .before .before .before .before in
-    let n = c .before .before .before .before .if1 .left in
+    let s = c .before .before .before .before .before .before .before in
+    let n = c .before .before .before .before .before .if1 .left in
     let h = s .pre .1 .0 in
     verdict-refused _ _ _ _ (h .0) (omega arith) (sym (c .before .gather .ensures .0) ∙ c .if2 .left)
 
@@ -75,6 +80,7 @@ decide-spec =
     actions-within-requires
     (λ c κs. search needs)
     returns
+    (λ c κs. search needs)
     gather-requires
     is-countered-requires
     (λ c κs. search needs)

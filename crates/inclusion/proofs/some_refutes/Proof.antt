@@ -10,6 +10,7 @@ use Rattle.task.specs.declared.Action.{Action}
 use Rattle.task.specs.Inner.{endsOf}
 use Rattle.meaning.specs.File.{File}
 use Rattle.meaning.specs.Sets.{inActions}
+use Rattle.certificate.specs.Views.{actionsIn}
 use Rattle.certificate.specs.Known.{decoded}
 use Rattle.certificate.proofs.KnownLaws.{read-file}
 use Rattle.inclusion.specs.Search.{CounteredBy}
@@ -19,21 +20,22 @@ use Rattle.inclusion.proofs.some_refutes.Statement.{statement}
 use Rattle.inclusion.proofs.some_refutes.Tie as tie
 
 abbrev Inv-loop : tie.InvT-loop
-Inv-loop file index ends left right g marks count i₀ i =
+Inv-loop file index ends left right g marks all count i₀ i =
     NoneYet (decoded file) (g .actions) (CounteredBy file ends left right g) i × (i ≤ count) ×
-    (count ≡ length (decoded file .task .actions))
+    (all ≡ actionsIn (decoded file)) × (count ≡ length (decoded file .task .actions))
 
 abbrev μ-loop : tie.MeasureT-loop
-μ-loop file index ends left right g marks count i₀ i = count - i
+μ-loop file index ends left right g marks all count i₀ i = count - i
 
 action-marks-requires : tie.Need-action-marks-requires Inv-loop μ-loop
 action-marks-requires c κs = (c .before .pre .0 .0, c .before .pre .1 .1)
 
-action-count-requires : tie.Need-action-count-requires Inv-loop μ-loop
-action-count-requires c κs = c .before .before .pre .0 .0 .read
+actions-requires : tie.Need-actions-requires Inv-loop μ-loop
+actions-requires c κs = c .before .before .pre .0 .0 .read
 
 loop-holds : tie.Need-loop-holds Inv-loop μ-loop
-loop-holds c = (none-yet, omega arith, c .action-count .ensures)
+unfolding actionsIn
+loop-holds c = (none-yet, omega arith, c .actions .ensures, λ i. c .actions .ensures i .count)
 
 is-marked-requires : tie.Need-is-marked-requires Inv-loop μ-loop
 is-marked-requires c κs =
@@ -43,7 +45,8 @@ is-marked-requires c κs =
     omega arith
 
 action-requires : tie.Need-action-requires Inv-loop μ-loop
-action-requires c κs = c .before .before .before .before .before .before .before .pre .0 .0 .read
+action-requires c κs =
+    let d = c .before .before .before in (d .before .before .before .before .pre .0 .0 .read, d .loop .inv .2)
 
 one-refutes-requires : tie.Need-one-refutes-requires Inv-loop μ-loop
 unfolding endsOf
@@ -92,6 +95,7 @@ loop-again c =
           (c .if1 .came),
       omega arith,
       v .2,
+      v .3,
     )
 
 returns-2 : tie.Need-returns-2 Inv-loop μ-loop
@@ -104,7 +108,7 @@ some-refutes-spec =
     Inv-loop
     μ-loop
     action-marks-requires
-    action-count-requires
+    actions-requires
     loop-holds
     is-marked-requires
     action-requires
