@@ -4,7 +4,7 @@ use Rattle.task.specs.Facts.{allOn, without, onesIn}
 use Rattle.task.specs.Task.{actionAt, isInit, isGoal, applies, after}
 use Rattle.task.specs.Reach.{member, every}
 use Rattle.meaning.specs.Result.{_>>=_, need, known}
-use Rattle.meaning.specs.Bytes.{bigEndian, number, inside}
+use Rattle.meaning.specs.Bytes.{bigEndian, bytesOf, number, inside}
 use Rattle.meaning.specs.File.{actionSetAt, stateSetAt, stepAt, actionKind, basicKind, stateKind, first, second, firstAction}
 use Rattle.meaning.specs.File.{secondAction}
 use Rattle.meaning.specs.Layout.{hornRule, twoCnfRule, items, ascending, field, count, mask, reference, action, clause, step}
@@ -25,10 +25,12 @@ use Rattle.meaning.specs.Numbering.{checkUnused, checkNumbers, ruleNumbe
 use Rattle.meaning.specs.Numbering.{replyNumbered}
 use Rattle.meaning.specs.Rounds.{lawfulCount, handBack, checkRound, roundTo, roundOf}
 use Rattle.meaning.specs.Structure.{afterEntries, actionSetCount, stateSetCount, stepCount, listedAt}
+use Rattle.meaning.specs.Question.{depthNode, depth, progressionNode, hasProgression, askable, answerTo, answerOf}
+use Rattle.meaning.specs.Versions.{twin}
 use Rattle.meaning.specs.Small.{replyWithin, above, longLists}
 use Rattle.meaning.specs.Small.{breaches}
-use Rattle.meaning.specs.Cases.{word, withLength, tableBytes, setBytes, stepBytes, firstSteps, allSteps, explicit012, fileBytes}
-use Rattle.meaning.specs.Cases.{sample, cases}
+use Rattle.meaning.specs.Cases.{word, withLength, eventBytes, tableBytes, setBytes, stepBytes, firstSteps, allSteps, explicit012, fileBytes}
+use Rattle.meaning.specs.Cases.{sample, cases, unknownBytes, leaveFile}
 
 unfoldable pub computed : Unit {0}
 unfolding allOn without actionAt isInit isGoal applies after member every _>>=_ need known bigEndian number inside actionSetAt
@@ -40,6 +42,6 @@ unfolding allOn without actionAt isInit isGoal applies after member every _>>=_ 
     patternKind noLetters _then_ given withLetter standsFor ofKind ofActionKind matchᴬ match matchEntries matchStep matchPremises
     judgementKind premiseCount allRules ruleAt entriesFit wellFormed checkBy checkStep checkSteps checkFrom checkFile replyTo replyOf
     checkUnused checkNumbers ruleNumbers ruleFrom ruleMeant rewritten checkRewritten replyNumbered lawfulCount
-    handBack checkRound roundTo roundOf replyWithin above afterEntries actionSetCount stateSetCount stepCount listedAt longLists breaches
-    word withLength tableBytes setBytes stepBytes firstSteps allSteps explicit012 fileBytes sample cases
+    handBack checkRound roundTo roundOf depthNode depth progressionNode hasProgression askable answerTo answerOf twin bytesOf replyWithin above afterEntries actionSetCount stateSetCount stepCount listedAt longLists breaches
+    word withLength eventBytes tableBytes setBytes stepBytes firstSteps allSteps explicit012 fileBytes sample cases unknownBytes leaveFile
 computed = tt

@@ -4,6 +4,8 @@ use mathlib.Core.Path.{refl}
 use Rattle.meaning.specs.Bytes.{bytesOf}
 use Rattle.meaning.specs.Writing.{each, writeEntry, actionBody, basicBody, stateBody, writeActionSet, writeStateSet, writeStep}
 use Rattle.meaning.specs.Writing.{counted, writeCertificate, fileOf}
+use Rattle.meaning.specs.Points.{VersionOne, TwinReplies, TwinChecks, TwinForm, FewUnknown, UnknownCases, LeaveCases}
+use Rattle.task.proofs.Initial.{few-unknown-facts}
 use Rattle.meaning.proofs.Reading.{reads-within}
 use Rattle.meaning.proofs.Written.{reads-back}
 use Rattle.meaning.proofs.RulesSound.{rules-sound}
@@ -32,6 +34,9 @@ use Rattle.meaning.proofs.Rounds.{round-says, hands-back, one-round}
 use Rattle.meaning.proofs.RelistedReads.{order-alike, limited-order-alike, numbered-order-alike, round-order-alike}
 use Rattle.meaning.proofs.RelistedReads.{answer-order-alike, first-wrong-state, no-order-fault}
 use Rattle.meaning.proofs.Runs.{run-is-check, run-ends, run-is-safe, fewest-rounds, questions-between}
+use Rattle.meaning.proofs.Versions.{version-one}
+use Rattle.meaning.proofs.MovedFiles.{twin-replies, twin-checks}
+use Rattle.meaning.proofs.TwinForm.{twin-form}
 
 pub the-sample-has-234-bytes : SampleLength
 unfolding computed
@@ -201,3 +206,28 @@ an-explicit-set-is-not-refused-with-7 = no-order-fault
 pub the-sample-lists-its-states-in-any-order : OrderCases
 unfolding computed
 the-sample-lists-its-states-in-any-order = (refl, refl, refl, refl, refl, refl)
+
+-- ---- document 02, d
+
+pub version-1-is-read-as-before : VersionOne
+version-1-is-read-as-before = version-one
+
+pub a-version-2-twin-gets-the-reply : TwinReplies
+a-version-2-twin-gets-the-reply = twin-replies
+
+pub a-version-2-twin-is-checked-alike : TwinChecks
+a-version-2-twin-is-checked-alike = twin-checks
+
+pub a-version-2-file-with-a-zero-mask-is-a-twin : TwinForm
+a-version-2-file-with-a-zero-mask-is-a-twin = twin-form
+
+pub a-task-of-few-states-has-few-unknown-facts : FewUnknown
+a-task-of-few-states-has-few-unknown-facts t h = few-unknown-facts t 12 h
+
+pub the-sample-with-unknown-facts : UnknownCases
+unfolding computed
+the-sample-with-unknown-facts = (refl, refl, refl, refl, refl, refl, refl, refl, refl, refl, refl, refl, refl, refl)
+
+pub kind-1-gives-leave-up-to-12-facts : LeaveCases
+unfolding computed
+kind-1-gives-leave-up-to-12-facts = (refl, refl, refl, refl, refl, refl, refl)

@@ -1,8 +1,9 @@
--- The sample file and the twelve proved cases of document 01, each a change of the sample.
+-- The sample file and the twelve proved cases of document 01, each a change of the sample; and files with unknown facts.
 -- Assumes nothing.
 use Prim.Native.Nat.{ℕ, _/_, _%_}
 use mathlib.Core.List.{List, [], _∷_, _++_}
 use lib.ListN.{length}
+use Rattle.meaning.specs.File.{all, empty, init, explicit, basic, complement, intersection, union, progression, File}
 use Rattle.meaning.specs.declared.Reply.{Reply}
 use Rattle.meaning.specs.declared.Reply.the-variants.{Accepted, Refused}
 
@@ -14,12 +15,15 @@ word m = 0 ∷ 0 ∷ 0 ∷ 0 ∷ 0 ∷ 0 ∷ 0 ∷ m ∷ []
 unfoldable pub withLength : List ℕ → List ℕ
 withLength rest = 0 ∷ 0 ∷ length rest / 256 ∷ length rest % 256 ∷ rest
 
--- version, n and start as given; forbidden 3; the two events; event set 0, all
-unfoldable pub tableBytes : ℕ → ℕ → ℕ → List ℕ
-tableBytes version n start =
-    version ∷ n ∷ word start ++ word 3
-    ++ 0 ∷ 2 ∷ word 0 ++ word 1 ++ word 2 ++ word 0 ++ word 2 ++ word 1
+-- the two events; event set 0, all
+unfoldable pub eventBytes : List ℕ
+eventBytes =
+    0 ∷ 2 ∷ word 0 ++ word 1 ++ word 2 ++ word 0 ++ word 2 ++ word 1
     ++ 0 ∷ 1 ∷ 0 ∷ 1 ∷ 0 ∷ []
+
+-- version, n and start as given; forbidden 3
+unfoldable pub tableBytes : ℕ → ℕ → ℕ → List ℕ
+tableBytes version n start = version ∷ n ∷ word start ++ word 3 ++ eventBytes
 
 -- the seven state sets, set 3 as given and set 5 the union of two
 unfoldable pub setBytes : List ℕ → ℕ → ℕ → List ℕ
@@ -71,3 +75,21 @@ cases =
     ∷ record { bytes = sample ++ 0 ∷ []; reply = Refused 1 0 }  -- one byte appended
     ∷ record { bytes = []; reply = Refused 1 0 }  -- empty file
     ∷ []
+
+-- ---- document 02, d
+
+-- the sample as version 2, with start, unknown and forbidden facts as given
+unfoldable pub unknownBytes : ℕ → ℕ → ℕ → List ℕ
+unknownBytes start unknown forbidden =
+    withLength (2 ∷ 2 ∷ word start ++ word unknown ++ word forbidden ++ eventBytes ++ setBytes explicit012 3 0 ++ allSteps)
+
+-- a file over 13 facts, some of them unknown, with the sets 0 empty, 1 initial, 2 explicit, 3 = 1*2, 4 = 1[0], 5 = ~0, 6 = 2+5
+unfoldable pub leaveFile : ℕ → File
+leaveFile unknown = record {
+  version = 2;
+  task = record { facts = 13; init = 0; unknown = unknown; goal = 0; actions = [] };
+  actionSets = all ∷ [];
+  stateSets =
+      basic empty ∷ basic init ∷ basic (explicit []) ∷ intersection 1 2 ∷ progression 1 0 ∷ complement 0 ∷ union 2 5 ∷ [];
+  steps = [];
+}

@@ -2,12 +2,13 @@
 -- Assumes nothing.
 use mathlib.Core.Path.{_≡_}
 use mathlib.Core.Logic.{_↔_, _⊎_}
-use mathlib.Core.Bool.{not, _&&_}
+use mathlib.Core.Bool.{true, false, not, _&&_}
 use mathlib.Core.Option.{none, some}
 use Prim.Native.Nat.{ℕ, zero, suc, _+_, _-_, _*_, _≤_, _<_}
 use mathlib.Core.List.{List, [], _∷_, _++_, map}
 use lib.ListN.{length, take, drop, replicate, getElem?}
 use lib.Dec.{T, leb, eqb}
+use Rattle.task.specs.Facts.{onesIn}
 use Rattle.task.specs.Task.{Task, isInit}
 use Rattle.task.specs.Reach.{member, every, Safe, Unsolvable, Dead, Reachable, AtMostReachable}
 use Rattle.task.specs.System.{System, States, Actions}
@@ -19,7 +20,7 @@ use Rattle.meaning.specs.Limits.{full, small}
 use Rattle.meaning.specs.Layout.{readTask, readWithin, readFile}
 use Rattle.meaning.specs.Writing.{All, fileOf, writeFile, Fits, FitsSize, Lawful}
 use Rattle.meaning.specs.Sets.{inSet, statesWithin, actionsWithin}
-use Rattle.meaning.specs.Shapes.{listsInit}
+use Rattle.meaning.specs.Shapes.{listsInit, shape₁, shape₂}
 use Rattle.meaning.specs.Rules.{letter, rules}
 use Rattle.meaning.specs.Match.{Letters, match}
 use Rattle.meaning.specs.Truth.{SoundRules}
@@ -36,7 +37,8 @@ use Rattle.meaning.specs.Rounds.{premisesOf, namedSets}
 use Rattle.meaning.specs.Small.{replyWithin, replySmall, breaches, Before}
 use Rattle.meaning.specs.Structure.{stateSetCount}
 use Rattle.meaning.specs.Relisted.{wrongIn, InState, Relisted}
-use Rattle.meaning.specs.Cases.{Case, cases, word, sample, fileBytes, explicit012, stepBytes, firstSteps, allSteps}
+use Rattle.meaning.specs.Cases.{Case, cases, word, withLength, sample, fileBytes, explicit012, stepBytes, firstSteps, allSteps}
+use Rattle.meaning.specs.Cases.{unknownBytes, leaveFile}
 use Rattle.meaning.specs.Versions.{readTask₁, twin, movedReply, movedRound, movedAnswer}
 use Rattle.meaning.specs.Certain.{certificateOf}
 
@@ -64,12 +66,12 @@ JudgementsTrue =
     (bytes : List ℕ) (f : File) → readFile bytes ≡ found f → checkSteps f 0 (f .steps) ≡ found tt
     → (k : ℕ) → k < length (f .steps) → Judged f (stepAt f k .kind) (stepAt f k .left) (stepAt f k .right)
 
--- Point 3, first half: of an accepted file, no list of the task's actions, played from the start, passes a forbidden state.
+-- Point 3, first half: of an accepted file, no list of the task's actions, played from an initial state, passes a forbidden state.
 abbrev pub AcceptedIsSafe : Type 0
 AcceptedIsSafe = (bytes : List ℕ) → replyOf bytes ≡ Accepted → (f : File) × (readFile bytes ≡ found f) × Safe (f .task)
 
 -- By a check, of a lawful table with at most so many states within reach,
--- some certificate is accepted exactly when no list of its actions leads from the start to a forbidden state.
+-- some certificate is accepted exactly when no list of its actions leads from an initial state to a forbidden state.
 abbrev pub Certifies : (List ℕ → Reply) → ℕ → Type 0
 Certifies check states =
     (table : List ℕ) (t : Task) → Lawful table t → AtMostReachable states t
@@ -161,7 +163,7 @@ RewrittenAlike =
     (numbers : List ℕ) (to from : ℕ → ℕ) → checkNumbers numbers ≡ found tt → Renumbering numbers to from
     → (bytes : List ℕ) → AreBytes bytes → replyNumbered (rewriteBytes to bytes) numbers ≡ replyOf bytes
 
--- Of a file that is accepted with a list, no list of the task's actions, played from the start, passes a forbidden state.
+-- Of a file that is accepted with a list, no list of the task's actions, played from an initial state, passes a forbidden state.
 abbrev pub NumberedIsSafe : Type 0
 NumberedIsSafe =
     (bytes numbers : List ℕ) → replyNumbered bytes numbers ≡ Accepted → (f : File) × (readFile bytes ≡ found f) × Safe (f .task)
@@ -200,7 +202,7 @@ HandsBack =
     (bytes : List ℕ) (from count next : ℕ) → roundOf bytes from count ≡ round.GoOn next
     → (f : File) × (readFile bytes ≡ found f) × (from < next) × (next < length (f .steps)) × (next ≡ from + count)
 
--- Of a file whose run ends accepted, no list of the task's actions, played from the start, passes a forbidden state.
+-- Of a file whose run ends accepted, no list of the task's actions, played from an initial state, passes a forbidden state.
 abbrev pub RunIsSafe : Type 0
 RunIsSafe = (bytes counts : List ℕ) → run bytes counts ≡ round.Ended → (f : File) × (readFile bytes ≡ found f) × Safe (f .task)
 
@@ -404,8 +406,45 @@ TwinChecks =
     × ((from count : ℕ) → SameAsTwin full movedRound (λ bytes. roundOf bytes from count))
     × ((e s : ℕ) → SameAsTwin full movedAnswer (λ bytes. answerOf bytes e s))
 
--- The twin of a version 1 file is such a file, and each of them is the twin of one.
+-- Each version 2 file with a zero mask is such a twin.
 abbrev pub TwinForm : Type 0
 TwinForm =
     (bytes : List ℕ) → AreBytes bytes → 22 ≤ length bytes → number 1 bytes 4 ≡ 2 → number 8 bytes 14 ≡ 0 → number 4 bytes 0 + 4 ≡ length bytes
     → (a : List ℕ) × AreBytes a × (number 1 a 4 ≡ 1) × (length a + 8 ≡ length bytes) × (twin a ≡ bytes)
+
+-- A task with at most 4,096 states within reach has at most 12 unknown facts, so that kind 1 lists its states: the certain certificate's
+-- step 5, which says that kind 1 is within the explicit set, has the leave that it needs.
+abbrev pub FewUnknown : Type 0
+FewUnknown = (t : Task) → AtMostReachable 4096 t → onesIn 64 (t .unknown) ≤ 12
+
+-- The sample as version 2: without unknown facts, its twin; with fact 0 unknown; with both, so that the forbidden state 3 is an initial one.
+-- 16 at the mask, after the start's 5 and its own, and before the forbidden mask is looked at; 3 where the file ends in it. And which
+-- states set 1 holds.
+abbrev pub UnknownCases : Type 0
+UnknownCases =
+    (unknownBytes 0 0 3 ≡ twin sample)
+    × (replyOf (unknownBytes 0 0 3) ≡ Accepted)
+    × (replyOf (unknownBytes 0 1 3) ≡ Accepted)
+    × (replyOf (unknownBytes 0 3 3) ≡ Refused 11 5)
+    × (replyOf (unknownBytes 1 1 3) ≡ Refused 16 14)
+    × (replyOf (unknownBytes 1 5 3) ≡ Refused 5 14)
+    × (replyOf (unknownBytes 4 4 3) ≡ Refused 5 6)
+    × (replyOf (unknownBytes 1 1 4) ≡ Refused 16 14)
+    × (replyOf (unknownBytes 0 1 4) ≡ Refused 5 22)
+    × (replyOf (withLength (2 ∷ 2 ∷ word 0 ++ 0 ∷ [])) ≡ Refused 3 14)
+    × (replyOf (fileBytes 3 2 0 explicit012 3 0 allSteps) ≡ Refused 2 4)
+    × (answerOf (unknownBytes 0 1 3) 1 0 ≡ answer.In)
+    × (answerOf (unknownBytes 0 1 3) 1 1 ≡ answer.In)
+    × (answerOf (unknownBytes 0 1 3) 1 2 ≡ answer.Out)
+
+-- Leave in explicit shapes: kind 1 gives it with 12 unknown facts, on the left of B1 and in the bracket of B2, and with 13 it does not;
+-- but it may stand there, on either side, where kind 3, or kind 0 that changed sides, gives it.
+abbrev pub LeaveCases : Type 0
+LeaveCases =
+    (shape₁ (leaveFile 4095) 1 2 ≡ true)
+    × (shape₁ (leaveFile 8191) 1 2 ≡ false)
+    × (shape₂ (leaveFile 4095) 4 2 ≡ true)
+    × (shape₂ (leaveFile 8191) 4 2 ≡ false)
+    × (shape₁ (leaveFile 8191) 3 2 ≡ true)
+    × (shape₁ (leaveFile 8191) 2 1 ≡ true)
+    × (shape₁ (leaveFile 8191) 1 6 ≡ true)
