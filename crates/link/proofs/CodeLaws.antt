@@ -22,7 +22,7 @@ use Rattle.meaning.specs.Rounds.{roundOf}
 use Rattle.meaning.specs.Small.{replySmall}
 use Rattle.meaning.specs.Question.{answerOf}
 use Rattle.meaning.proofs.Rounds.{goes-further}
-use Rattle.meaning.proofs.Points.{an-accepted-file-is-safe, a-refused-file-has-a-number-to-12, a-refused-question-has-its-number}
+use Rattle.meaning.proofs.Points.{an-accepted-file-is-safe, a-refused-file-has-its-number, a-refused-question-has-its-number}
 use Rattle.meaning.proofs.Points.{a-file-accepted-with-a-list-is-safe, a-refusal-with-a-list-has-its-number}
 use Rattle.meaning.proofs.Points.{a-refused-round-has-its-number, a-file-that-the-small-check-accepts-is-safe}
 use Rattle.meaning.proofs.Points.{a-refusal-with-limits-has-its-number}
@@ -37,13 +37,18 @@ unfolding codeOf
 accepted Accepted h e = refl
 accepted (Refused r p) h e = absurd (omega (arith, e, refusal-above r p (h r p refl)))
 
+-- the layout's and the steps' numbers are not 0
+some-number : {r m : ℕ} → ((1 ≤ r) × (r ≤ m)) ⊎ (r ≡ 16) → 1 ≤ r
+some-number (inl h) = h .0
+some-number (inr e) = omega (arith, e)
+
 pub safe-by-code : (bytes : List ℕ) {c : ℕ} → c ≡ codeOf (replyOf bytes) → c ≡ 0 → (f : File) × (readFile bytes ≡ found f) × Safe (f .task)
 safe-by-code bytes e z =
-    an-accepted-file-is-safe bytes (accepted (replyOf bytes) (λ r p q. a-refused-file-has-a-number-to-12 bytes r p q .0) (sym e ∙ z))
+    an-accepted-file-is-safe bytes (accepted (replyOf bytes) (λ r p q. some-number (a-refused-file-has-its-number bytes r p q)) (sym e ∙ z))
 
--- one of a first few numbers, or another that is none of them and not 0
-least : {r m : ℕ} {X : Type 0} → (X → 1 ≤ r) → ((1 ≤ r) × (r ≤ m)) ⊎ X → 1 ≤ r
-least other (inl h) = h .0
+-- one of these, or another that is not 0
+least : {r m : ℕ} {X : Type 0} → (X → 1 ≤ r) → (((1 ≤ r) × (r ≤ m)) ⊎ (r ≡ 16)) ⊎ X → 1 ≤ r
+least other (inl h) = some-number h
 least other (inr x) = other x
 
 pub safe-by-list : (bytes numbers : List ℕ) {c : ℕ} → c ≡ codeOf (replyNumbered bytes numbers) → c ≡ 0

@@ -78,8 +78,8 @@ what-was-read-is-written-back = writes-back
 pub a-question-takes-one-walk : Shortcut
 a-question-takes-one-walk = shortcut
 
-pub a-refused-file-has-a-number-to-12 : RefusalNumbers
-a-refused-file-has-a-number-to-12 = refusal-numbers
+pub a-refused-file-has-its-number : RefusalNumbers
+a-refused-file-has-its-number = refusal-numbers
 
 pub a-refused-question-has-its-number : AnswerNumbers
 a-refused-question-has-its-number = answer-numbers
