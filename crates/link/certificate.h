@@ -42,8 +42,8 @@ uint64_t certificate_ask(const uint8_t *file, size_t length, uint64_t entry, uin
 enum { CERTIFICATE_OUT = 0, CERTIFICATE_IN = 1 };
 
 /* A refusal is one number: the documents' refusal number times 2^32, plus its place. That is a byte of the file for the numbers 1
-   to 7 and 19, a step for 8 to 12, 0 for 13 and 17, and for 18 a byte of the list, or the list's length: 2^32 - 1 where that does not
-   fit 32 bits. What is no refusal has number 0. */
+   to 7, 16 and 19, a step for 8 to 12, 0 for 13 and 17, and for 18 a byte of the list, or the list's length: 2^32 - 1 where that does
+   not fit 32 bits. What is no refusal has number 0. */
 #define CERTIFICATE_NUMBER(code) ((uint32_t)((uint64_t)(code) >> 32))
 #define CERTIFICATE_PLACE(code) ((uint32_t)(code))
 
@@ -64,6 +64,7 @@ enum { CERTIFICATE_OUT = 0, CERTIFICATE_IN = 1 };
     EACH(CERTIFICATE_REFUSED_UNTRUE, 11, "basic statement untrue") \
     EACH(CERTIFICATE_REFUSED_LAST, 12, "the last step is not \"unsolvable\"") \
     EACH(CERTIFICATE_REFUSED_QUESTION, 13, "a question that cannot be asked") \
+    EACH(CERTIFICATE_REFUSED_UNKNOWN, 16, "a fact that is both on in the start and unknown") \
     EACH(CERTIFICATE_REFUSED_ROUND, 17, "a round of no steps or over 2,048, or begun beyond the last step") \
     EACH(CERTIFICATE_REFUSED_NUMBERS, 18, "a list of rule numbers that is not 28 different bytes from 1 to 255") \
     EACH(CERTIFICATE_REFUSED_SMALL, 19, "over a small limit: 16,384 bytes, 512 states in an explicit set, 256 steps")
