@@ -54,7 +54,7 @@ module _ (bytes : List ℕ) (r : IsRead bytes) where
   pub read-version : numberAt 1 bytes 4 ≡ decoded bytes .version
   read-version = version-at bytes (decoded bytes) r
 
-  pub read-actions : record { at = actionCountAt (decoded bytes .version) + 2; count = numberAt 2 bytes (actionCountAt (decoded bytes .version)) }
+  pub read-actions : (let p : ℕ = actionCountAt (decoded bytes .version) in record { at = p + 2; count = numberAt 2 bytes p })
       ≡ actionsIn (decoded bytes)
   unfolding actionsIn
   read-actions = λ i. record { at = actionCountAt (decoded bytes .version) + 2; count = action-count-at bytes (decoded bytes) r i }

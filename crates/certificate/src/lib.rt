@@ -21,7 +21,7 @@ pub struct Places {
     pub steps_at: u32,
 }
 
-// What the layout check finds: the refusal number, 1 to 7 or 19, and place; or where everything is.
+// What the layout check finds: the refusal number, 1 to 7, 16 or 19, and place; or where everything is.
 pub enum Outline {
     Refused { number: u8, place: u32 },
     Lawful(Places),

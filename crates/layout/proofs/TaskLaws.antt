@@ -98,7 +98,9 @@ module _ (bytes : List ℕ) {t : Bool} (q : t ≡ inside 1 bytes 4) where
     module _ (g : not (eqb v 1 || eqb v 2) ≡ false) {u : Bool} (q′ : u ≡ inside 1 bytes 5) where
       pub facts-cut : not u ≡ true → At 3 5 ≡ fault (factsAt bytes)
       unfolding factsAt field
-      facts-cut s′ = refused (goes-on _ version-read ∙ passed 2 4 _ (not-false (eqb v 1 || eqb v 2) g) ∙ stops _ (failed 3 5 _ (sym q′ ∙ not-true u s′)))
+      facts-cut s′ =
+          refused (goes-on _ version-read ∙ passed 2 4 _ (not-false (eqb v 1 || eqb v 2) g)
+          ∙ stops _ (failed 3 5 _ (sym q′ ∙ not-true u s′)))
 
       module _ (s′ : not u ≡ false) {n : ℕ} (en : n ≡ numberAt 1 bytes 5) where
         facts-read : field bytes 1 5 ≡ found n
@@ -178,7 +180,8 @@ module _ (bytes : List ℕ) (v n : ℕ) where
     unfolding startAt unknownMask _>>=_
     then =
         rw (startAt, unknownMask, later)
-        (bind-same {r = mask bytes n 6} refl λ s. in-turn (mask bytes n 14) _ _ _ λ u. in-turn (need (eqb (bitAnd s u) 0) 16 14) _ _ _ λ _. refl)
+        (bind-same {r = mask bytes n 6} refl λ s. in-turn (mask bytes n 14) _ _ _ λ u.
+        in-turn (need (eqb (bitAnd s u) 0) 16 14) _ _ _ λ _. refl)
 
     pub start-bad : {r p : ℕ} → w ≡ At r p → At r p ≡ fault (startAt bytes v n)
     unfolding items _>>=_
@@ -203,12 +206,14 @@ module _ (bytes : List ℕ) (v n : ℕ) where
 -- ---- the task
 
 module _ (bytes : List ℕ) where
-  -- what follows the number of facts
-  abbrev fromStart : ℕ → ℕ → ℕ × ℕ → Result (Task × ℕ)
-  fromStart v n x =
-      mask bytes n (goalAt v) >>= λ g. count bytes 0 256 (actionCountAt v) >>= λ m.
-      items (action bytes n) (actionSize v) (actionCountAt v + 2) m >>= λ acts.
+  -- what follows the goal's mask, the start and the number of facts
+  abbrev fromGoal : ℕ → ℕ → ℕ × ℕ → ℕ → Result (Task × ℕ)
+  fromGoal v n x g =
+      count bytes 0 256 (actionCountAt v) >>= λ m. items (action bytes n) (actionSize v) (actionCountAt v + 2) m >>= λ acts.
       found (record { facts = n; init = x .0; unknown = x .1; goal = g; actions = acts }, afterActions v m)
+
+  abbrev fromStart : ℕ → ℕ → ℕ × ℕ → Result (Task × ℕ)
+  fromStart v n x = mask bytes n (goalAt v) >>= fromGoal v n x
 
   abbrev fromFacts : ℕ × ℕ → Result (Task × ℕ)
   fromFacts x = startAt bytes (x .0) (x .1) >>= fromStart (x .0) (x .1)
@@ -238,59 +243,64 @@ module _ (bytes : List ℕ) where
       let q = sym (found-same e₄) in
       (ap (λ (y : ℕ × ℕ). y .0) q ∙ k .0, ap (λ (y : ℕ × ℕ). y .1) q ∙ h .0, h .1)
 
-  module _ {f : Fault} (good : f ≡ None) (o : f ≡ fault (factsAt bytes)) where
-    opening-found : (x : ℕ × ℕ) × (factsAt bytes ≡ found x)
-    opening-found = found-of (factsAt bytes) (sym good ∙ o)
+  -- what is left to read of a file of version v with n facts, once the opening, the start and the goal's mask are read
+  pub record Opened (v n : ℕ) : Type 0 where
+    pub reads : readTask bytes ≡ fromFacts (v, n)
+    pub ends : 6 ≤ length bytes
 
-    pub opening-ends : 6 ≤ length bytes
-    opening-ends = facts-found (opening-found .0) (opening-found .1) .2
+  pub record Started (v n : ℕ) : Type 0 where
+    pub start : ℕ × ℕ
+    pub reads : readTask bytes ≡ fromStart v n start
+    pub ends : goalAt v ≤ length bytes
 
-    module _ {v n : ℕ} (ev : v ≡ numberAt 1 bytes 4) (en : n ≡ numberAt 1 bytes 5) where
-      before-start : readTask bytes ≡ fromFacts (v, n)
-      before-start =
-          let x = opening-found in
-          let h = facts-found (x .0) (x .1) in
-          sym opened ∙ goes-on _ (x .1) ∙ ap₂ (λ (y z : ℕ). fromFacts (y, z)) (h .0 ∙ sym ev) (h .1 ∙ sym en)
+  pub record Aimed (v n : ℕ) : Type 0 where
+    pub start : ℕ × ℕ
+    pub goal : ℕ
+    pub reads : readTask bytes ≡ fromGoal v n start goal
 
-      pub state-bad : {w : Fault} {r p : ℕ} → w ≡ At r p → w ≡ fault (startAt bytes v n) → At r p ≡ fault (readTask bytes)
-      state-bad {r = r} {p} z y = refused-task (before-start ∙ stops _ (refused-of (startAt bytes v n) r p (sym z ∙ y)))
+  pub opened-well : {f : Fault} {v n : ℕ} → f ≡ None → f ≡ fault (factsAt bytes) → v ≡ numberAt 1 bytes 4 → n ≡ numberAt 1 bytes 5
+      → Opened v n
+  opened-well good o ev en =
+      let x = found-of (factsAt bytes) (sym good ∙ o) in
+      let h = facts-found (x .0) (x .1) in
+      record {
+        reads = sym opened ∙ goes-on _ (x .1) ∙ ap₂ (λ (y z : ℕ). fromFacts (y, z)) (h .0 ∙ sym ev) (h .1 ∙ sym en);
+        ends = h .2;
+      }
 
-      module _ {w : Fault} (fine : w ≡ None) (y : w ≡ fault (startAt bytes v n)) where
-        the-start : (x : ℕ × ℕ) × (startAt bytes v n ≡ found x)
-        the-start = found-of (startAt bytes v n) (sym fine ∙ y)
+  -- the goal's mask is a run of one
+  goal-told : (v n : ℕ) {w : Fault} → w ≡ fault (items (mask bytes n) 8 (goalAt v) 1) → w ≡ fault (mask bytes n (goalAt v))
+  goal-told v n i = i ∙ told (items (mask bytes n) 8 (goalAt v) 1) (mask bytes n (goalAt v)) (one-mask (mask bytes n) (goalAt v))
 
-        before-goal : readTask bytes ≡ fromStart v n (the-start .0)
-        before-goal = before-start ∙ goes-on _ (the-start .1)
+  module _ {v n : ℕ} where
+    pub start-refused : Opened v n → {w : Fault} {r p : ℕ} → w ≡ At r p → w ≡ fault (startAt bytes v n) → At r p ≡ fault (readTask bytes)
+    start-refused o {r = r} {p} z y = refused-task (o .reads ∙ stops _ (refused-of (startAt bytes v n) r p (sym z ∙ y)))
 
-        -- it ends where the goal's mask stands
-        pub start-ends : goalAt v ≤ length bytes
-        start-ends = start-inside bytes v n (the-start .0) (the-start .1)
+    pub started-well : Opened v n → {w : Fault} → w ≡ None → w ≡ fault (startAt bytes v n) → Started v n
+    started-well o fine y =
+        let x = found-of (startAt bytes v n) (sym fine ∙ y) in
+        record { start = x .0; reads = o .reads ∙ goes-on _ (x .1); ends = start-inside bytes v n (x .0) (x .1) }
 
-        pub goal-bad : {x : Fault} {r p : ℕ} → x ≡ At r p → x ≡ fault (items (mask bytes n) 8 (goalAt v) 1)
-            → At r p ≡ fault (readTask bytes)
-        goal-bad {r = r} {p} z i =
-            refused-task (before-goal ∙ stops _ (refused-of (mask bytes n (goalAt v)) r p
-            (sym z ∙ i ∙ told (items (mask bytes n) 8 (goalAt v) 1) (mask bytes n (goalAt v)) (one-mask (mask bytes n) (goalAt v)))))
+    pub goal-refused : Started v n → {w : Fault} {r p : ℕ} → w ≡ At r p → w ≡ fault (items (mask bytes n) 8 (goalAt v) 1)
+        → At r p ≡ fault (readTask bytes)
+    goal-refused t {r = r} {p} z i = refused-task (t .reads ∙ stops _ (refused-of (mask bytes n (goalAt v)) r p (sym z ∙ goal-told v n i)))
 
-        module _ {x : Fault} (okay : x ≡ None) (i : x ≡ fault (items (mask bytes n) 8 (goalAt v) 1)) where
-          the-goal : (g : ℕ) × (mask bytes n (goalAt v) ≡ found g)
-          the-goal =
-              found-of (mask bytes n (goalAt v))
-              (sym okay ∙ i ∙ told (items (mask bytes n) 8 (goalAt v) 1) (mask bytes n (goalAt v)) (one-mask (mask bytes n) (goalAt v)))
+    pub aimed-well : Started v n → {w : Fault} → w ≡ None → w ≡ fault (items (mask bytes n) 8 (goalAt v) 1) → Aimed v n
+    aimed-well t fine i =
+        let g = found-of (mask bytes n (goalAt v)) (sym fine ∙ goal-told v n i) in
+        record { start = t .start; goal = g .0; reads = t .reads ∙ goes-on _ (g .1) }
 
-          pub actions-none : {y : Fault} {r p : ℕ} → y ≡ At r p → y ≡ fault (count bytes 0 256 (actionCountAt v))
-              → At r p ≡ fault (readTask bytes)
-          actions-none {r = r} {p} j z =
-              refused-task (before-goal ∙ goes-on _ (the-goal .1)
-              ∙ stops _ (refused-of (count bytes 0 256 (actionCountAt v)) r p (sym j ∙ z)))
+    pub count-refused : Aimed v n → {w : Fault} {r p : ℕ} → w ≡ At r p → w ≡ fault (count bytes 0 256 (actionCountAt v))
+        → At r p ≡ fault (readTask bytes)
+    count-refused t {r = r} {p} j z = refused-task (t .reads ∙ stops _ (refused-of (count bytes 0 256 (actionCountAt v)) r p (sym j ∙ z)))
 
-          pub actions-say : {y : Fault} → y ≡ None → y ≡ fault (count bytes 0 256 (actionCountAt v))
-              → {m : ℕ} → m ≡ numberAt 2 bytes (actionCountAt v)
-              → {j : Fault} → j ≡ fault (items (mask bytes n) 8 (actionCountAt v + 2) (3 * m)) → j ≡ fault (readTask bytes)
-          unfolding actionSize
-          actions-say good z {m} em j =
-              j
-              ∙ told (items (mask bytes n) 8 (actionCountAt v + 2) (3 * m)) (readTask bytes)
-              (actions-masks bytes n m (actionCountAt v + 2)
-              ∙ sym (forget-after (items (action bytes n) 24 (actionCountAt v + 2) m) _)
-              ∙ ap forget (sym (before-goal ∙ goes-on _ (the-goal .1) ∙ goes-on _ (count-found bytes 0 256 (actionCountAt v) good z em))))
+    pub actions-say : Aimed v n → {w : Fault} → w ≡ None → w ≡ fault (count bytes 0 256 (actionCountAt v))
+        → {m : ℕ} → m ≡ numberAt 2 bytes (actionCountAt v)
+        → {j : Fault} → j ≡ fault (items (mask bytes n) 8 (actionCountAt v + 2) (3 * m)) → j ≡ fault (readTask bytes)
+    unfolding actionSize
+    actions-say t good z {m} em j =
+        j
+        ∙ told (items (mask bytes n) 8 (actionCountAt v + 2) (3 * m)) (readTask bytes)
+        (actions-masks bytes n m (actionCountAt v + 2)
+        ∙ sym (forget-after (items (action bytes n) 24 (actionCountAt v + 2) m) _)
+        ∙ ap forget (sym (t .reads ∙ goes-on _ (count-found bytes 0 256 (actionCountAt v) good z em))))

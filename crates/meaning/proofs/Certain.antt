@@ -120,6 +120,9 @@ module _ (v : ℕ) (t : Task) (ss : List ℕ) (lists : (s : ℕ) → T (member s
   few-unknown : T (leb (onesIn 64 (t .unknown)) 12)
   few-unknown = le→leb _ 12 (few-unknown-facts t 12 (λ xs d r. le-trans (no-more t ss (λ s. lists s .1) xs d r) few))
 
+  may-list : need (leb (onesIn 64 (t .unknown)) 12 || false) 10 5 ≡ found tt
+  may-list = need-in _ 10 5 (or-left (leb (onesIn 64 (t .unknown)) 12) false few-unknown)
+
   pass-5 : checkStep f 5 (stepOf 1 1 1 3 0 0 0)
       ≡ (need (leb (onesIn 64 (t .unknown)) 12 || false) 10 5 >>= λ _. need (statesWithin f 1 3) 11 5)
   unfolding computed
@@ -140,7 +143,7 @@ module _ (v : ℕ) (t : Task) (ss : List ℕ) (lists : (s : ℕ) → T (member s
       bind-in _
       (bind-in _ (d .0) (bind-in _ (pass-1 ∙ need-in (statesWithin f 4 5) 11 1 closed)
       (bind-in _ (pass-2 ∙ need-in (statesWithin f 6 0) 11 2 no-goal)
-      (bind-in _ (d .1) (bind-in _ (d .2) (bind-in _ (pass-5 ∙ bind-in _ (need-in _ 10 5 (or-left (leb (onesIn 64 (t .unknown)) 12) false few-unknown)) (need-in (statesWithin f 1 3) 11 5 init-listed))
+      (bind-in _ (d .1) (bind-in _ (d .2) (bind-in _ (pass-5 ∙ bind-in _ may-list (need-in (statesWithin f 1 3) 11 5 init-listed))
       (bind-in _ (d .3) (bind-in _ (d .4) refl))))))))
       (d .5)
 

@@ -13,8 +13,8 @@ use Rattle.meaning.specs.Layout.{goalAt, actionCountAt, actionSize, afte
 use Rattle.meaning.specs.Sets.{allBelow, someBelow, rounds, settled, actionNode, inActions, meets, inBasic, someAction, progressed}
 use Rattle.meaning.specs.Sets.{regressed, stateNode, inSet, statesWithin, actionsWithin}
 use Rattle.meaning.specs.Shapes.{keep, theOnly, kindAt, child, leafNode, leaves, isBasic, isComplement, isLiteral, literalKind}
-use Rattle.meaning.specs.Shapes.{complements, others, movedLeft, movedRight, bracket, used, ofLiterals, ofClauses, listsInit, ofStates}
-use Rattle.meaning.specs.Shapes.{permitted, shape₁, shapeWith, shape₂, shape₃, mixed, shape₄}
+use Rattle.meaning.specs.Shapes.{complements, others, movedLeft, movedRight, bracket, used, ofLiterals, ofClauses, listsInit}
+use Rattle.meaning.specs.Shapes.{ofStates, permitted, shape₁, shapeWith, shape₂, shape₃, mixed, shape₄}
 use Rattle.meaning.specs.Statements.{statements}
 use Rattle.meaning.specs.Rules.{rules, patternKind}
 use Rattle.meaning.specs.Match.{noLetters, _then_, given, withLetter, standsFor, ofKind, ofActionKind, matchᴬ, match, matchEntries}
@@ -29,19 +29,20 @@ use Rattle.meaning.specs.Question.{depthNode, depth, progressionNode, ha
 use Rattle.meaning.specs.Versions.{twin}
 use Rattle.meaning.specs.Small.{replyWithin, above, longLists}
 use Rattle.meaning.specs.Small.{breaches}
-use Rattle.meaning.specs.Cases.{word, withLength, eventBytes, tableBytes, setBytes, stepBytes, firstSteps, allSteps, explicit012, fileBytes}
-use Rattle.meaning.specs.Cases.{sample, cases, unknownBytes, leaveFile}
+use Rattle.meaning.specs.Cases.{word, withLength, eventBytes, tableBytes, setBytes, stepBytes, firstSteps, allSteps, explicit012}
+use Rattle.meaning.specs.Cases.{fileBytes, sample, cases, unknownBytes, leaveFile}
 
 unfoldable pub computed : Unit {0}
-unfolding allOn without actionAt isInit isGoal applies after member every _>>=_ need known bigEndian number inside actionSetAt
-    stateSetAt stepAt actionKind basicKind stateKind first second firstAction secondAction onesIn hornRule twoCnfRule items ascending
-    field count mask reference action clause step upTo plain one two clauses actionKinds stateKinds entry entries goalAt actionCountAt
-    actionSize afterActions unknownMask readTask readWithin readFile allBelow someBelow rounds settled actionNode inActions meets inBasic someAction progressed regressed stateNode inSet statesWithin
-    actionsWithin keep theOnly kindAt child leafNode leaves isBasic isComplement isLiteral literalKind complements others movedLeft
-    movedRight bracket used ofLiterals ofClauses listsInit ofStates permitted shape₁ shapeWith shape₂ shape₃ mixed shape₄ statements rules
-    patternKind noLetters _then_ given withLetter standsFor ofKind ofActionKind matchᴬ match matchEntries matchStep matchPremises
-    judgementKind premiseCount allRules ruleAt entriesFit wellFormed checkBy checkStep checkSteps checkFrom checkFile replyTo replyOf
-    checkUnused checkNumbers ruleNumbers ruleFrom ruleMeant rewritten checkRewritten replyNumbered lawfulCount
-    handBack checkRound roundTo roundOf depthNode depth progressionNode hasProgression askable answerTo answerOf twin bytesOf replyWithin above afterEntries actionSetCount stateSetCount stepCount listedAt longLists breaches
-    word withLength eventBytes tableBytes setBytes stepBytes firstSteps allSteps explicit012 fileBytes sample cases unknownBytes leaveFile
+unfolding allOn without actionAt isInit isGoal applies after member every _>>=_ need known bigEndian number inside actionSetAt stateSetAt
+    stepAt actionKind basicKind stateKind first second firstAction secondAction onesIn hornRule twoCnfRule items ascending field count
+    mask reference action clause step upTo plain one two clauses actionKinds stateKinds entry entries goalAt actionCountAt actionSize
+    afterActions unknownMask readTask readWithin readFile allBelow someBelow rounds settled actionNode inActions meets inBasic someAction
+    progressed regressed stateNode inSet statesWithin actionsWithin keep theOnly kindAt child leafNode leaves isBasic isComplement
+    isLiteral literalKind complements others movedLeft movedRight bracket used ofLiterals ofClauses listsInit ofStates permitted shape₁
+    shapeWith shape₂ shape₃ mixed shape₄ statements rules patternKind noLetters _then_ given withLetter standsFor ofKind ofActionKind
+    matchᴬ match matchEntries matchStep matchPremises judgementKind premiseCount allRules ruleAt entriesFit wellFormed checkBy checkStep
+    checkSteps checkFrom checkFile replyTo replyOf checkUnused checkNumbers ruleNumbers ruleFrom ruleMeant rewritten checkRewritten
+    replyNumbered lawfulCount handBack checkRound roundTo roundOf depthNode depth progressionNode hasProgression askable answerTo answerOf
+    twin bytesOf replyWithin above afterEntries actionSetCount stateSetCount stepCount listedAt longLists breaches word withLength
+    eventBytes tableBytes setBytes stepBytes firstSteps allSteps explicit012 fileBytes sample cases unknownBytes leaveFile
 computed = tt

@@ -258,7 +258,8 @@ reads-within l bytes f h e =
     let r = read-with l bytes FitsStep (step-gives bytes h) f e in
     let w = within-walked l bytes f e in (
       record {
-        version = subst (λ (g : File). FitsVersion (g .version) (g .task)) (w .whole) (task-read bytes (w .t .0) (w .t .1) (w .t!) .version);
+        version =
+            subst (λ (g : File). FitsVersion (g .version) (g .task)) (w .whole) (task-read bytes (w .t .0) (w .t .1) (w .t!) .version);
         task = r .0 .task;
         certificate = record {
           few-action-sets = r .0 .few-action-sets;

@@ -112,7 +112,8 @@ module _ {a b : List ℕ} (r : Relisted a b) (lo hi : ℕ) (free : Free a lo hi)
       bind-same (mask-eq n 6 (omega arith) (omega arith)) λ s.
       bind-same (unknown-eq w n s (omega arith) (omega arith)) λ _.
       bind-same (mask-eq n (goalAt w) (omega arith) (omega arith)) λ _.
-      then-same (count-in 0 30 a 0 256 (actionCountAt w) (omega arith) (omega arith)) (count-eq 0 256 (actionCountAt w) (omega arith) (omega arith))
+      then-same (count-in 0 30 a 0 256 (actionCountAt w) (omega arith) (omega arith))
+      (count-eq 0 256 (actionCountAt w) (omega arith) (omega arith))
       λ m e. bind-same (items-eq 24 (action-eq n) m (actionCountAt w + 2) (omega arith) (let i = e .0 in omega arith)) λ _. refl)
 
   -- ---- kinds of entry

@@ -15,8 +15,8 @@ use Rattle.meaning.specs.declared.Limits.{Limits}
 use Rattle.meaning.specs.Limits.{full}
 use Rattle.meaning.specs.Layout.{action, step, goalAt, actionCountAt, actionSize, afterActions, readTask, readWithin}
 use Rattle.meaning.specs.Writing.{each, writeAction, writeActionSet, writeStateSet, writeStep, counted, writeUnknown, writeTask}
-use Rattle.meaning.specs.Writing.{writeCertificate, fileOf, writeFile, AllFrom, FitsAction, FitsTask, FitsVersion, FitsStateSet, FitsStep}
-use Rattle.meaning.specs.Writing.{FitsCertificate, listedStates, Allowed, Fits, FitsSize, Lawful}
+use Rattle.meaning.specs.Writing.{writeCertificate, fileOf, writeFile, AllFrom, FitsAction, FitsTask, FitsVersion, FitsStateSet}
+use Rattle.meaning.specs.Writing.{FitsStep, FitsCertificate, listedStates, Allowed, Fits, FitsSize, Lawful}
 use Rattle.meaning.proofs.Results.{bind-in, need-in, and-in}
 use Rattle.meaning.proofs.Numbers.{length-bytesOf}
 use Rattle.meaning.proofs.Reading.{task-fits}
@@ -43,7 +43,8 @@ unfolding readTask writeTask counted actionCountAt actionSize afterActions
 task-back b rest v t h k w =
     let m : ℕ = length (t .actions) in
     let w₅ = after-byte b 4 v _ w 5 refl in
-    let w₆ : At b 6 (bytesOf 8 (t .init) ++ (writeUnknown v t ++ (bytesOf 8 (t .goal) ++ (bytesOf 2 m ++ (each writeAction (t .actions) ++ rest))))) =
+    let w₆ : At b 6 (bytesOf 8 (t .init)
+    ++ (writeUnknown v t ++ (bytesOf 8 (t .goal) ++ (bytesOf 2 m ++ (each writeAction (t .actions) ++ rest))))) =
     simp append-assoc at (after-byte b 5 (t .facts)
     (bytesOf 8 (t .init) ++ writeUnknown v t ++ bytesOf 8 (t .goal) ++ counted writeAction (t .actions) ++ rest) w₅ 6 refl) in
     let w₁₄ = after-number b 6 8 (t .init) _ w₆ 14 refl in
@@ -163,4 +164,10 @@ reads-back l f h size =
     let v : number 1 (fileOf table c) 4 ≡ f .version = version-back (f .version) (f .task) c in
     certificate-reads l table (f .task) (f .actionSets) (f .stateSets) (f .steps)
     (task-lawful (f .version) (f .task) (h .task) (h .version)) (h .certificate) (h .allowed) size
-    ∙ ap (λ (k : ℕ). found (record { version = k; task = f .task; actionSets = f .actionSets; stateSets = f .stateSets; steps = f .steps })) v
+    ∙ (λ i. found (record {
+      version = v i;
+      task = f .task;
+      actionSets = f .actionSets;
+      stateSets = f .stateSets;
+      steps = f .steps;
+    }))

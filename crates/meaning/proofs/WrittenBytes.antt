@@ -16,8 +16,8 @@ use Rattle.meaning.specs.Bytes.{bytesOf, AreBytes}
 use Rattle.meaning.specs.File.{ActionSet, all, listed, either, empty, init, goal, explicit, horn, twoCnf, StateSet, basic}
 use Rattle.meaning.specs.File.{complement, intersection, union, progression, regression, Step, File, actionKind, basicKind, stateKind}
 use Rattle.meaning.specs.Writing.{each, writeClause, writeEntry, actionBody, basicBody, stateBody, writeActionSet, writeStateSet}
-use Rattle.meaning.specs.Writing.{writeAction, writeStep, counted, writeUnknown, writeTask, writeCertificate, fileOf, writeFile, AllFrom}
-use Rattle.meaning.specs.Writing.{FitsTask, FitsVersion, FitsStep, Fits}
+use Rattle.meaning.specs.Writing.{writeAction, writeStep, counted, writeUnknown, writeTask, writeCertificate, fileOf, writeFile}
+use Rattle.meaning.specs.Writing.{AllFrom, FitsTask, FitsVersion, FitsStep, Fits}
 use Rattle.meaning.specs.declared.Limits.{Limits}
 use Rattle.meaning.proofs.Written.{anything}
 

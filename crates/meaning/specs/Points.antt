@@ -381,8 +381,8 @@ OrderCases =
 
 -- ---- document 02, d: facts that may be on or off at the start
 
--- Version 1 is read as document 01 says, byte for byte. No fact is unknown, so the start is the one initial state, and kind 1 gives leave
--- as ever: no other definition has changed.
+-- Version 1 is read as document 01 says, byte for byte. No fact is unknown there: the start is the one initial state, and kind 1 gives
+-- leave. Nothing else hangs on the version.
 abbrev pub VersionOne : Type 0
 VersionOne =
     ((bytes : List ℕ) → number 1 bytes 4 ≡ 1 → readTask bytes ≡ readTask₁ bytes)
@@ -409,7 +409,8 @@ TwinChecks =
 -- Each version 2 file with a zero mask is such a twin.
 abbrev pub TwinForm : Type 0
 TwinForm =
-    (bytes : List ℕ) → AreBytes bytes → 22 ≤ length bytes → number 1 bytes 4 ≡ 2 → number 8 bytes 14 ≡ 0 → number 4 bytes 0 + 4 ≡ length bytes
+    (bytes : List ℕ) → AreBytes bytes → 22 ≤ length bytes → number 1 bytes 4 ≡ 2 → number 8 bytes 14 ≡ 0
+    → number 4 bytes 0 + 4 ≡ length bytes
     → (a : List ℕ) × AreBytes a × (number 1 a 4 ≡ 1) × (length a + 8 ≡ length bytes) × (twin a ≡ bytes)
 
 -- A task with at most 4,096 states within reach has at most 12 unknown facts, so that kind 1 lists its states: the certain certificate's
@@ -417,7 +418,7 @@ TwinForm =
 abbrev pub FewUnknown : Type 0
 FewUnknown = (t : Task) → AtMostReachable 4096 t → onesIn 64 (t .unknown) ≤ 12
 
--- The sample as version 2: without unknown facts, its twin; with fact 0 unknown; with both, so that the forbidden state 3 is an initial one.
+-- The sample as version 2: without unknown facts, its twin; with fact 0 unknown; with both, so that the forbidden state 3 is initial.
 -- 16 at the mask, after the start's 5 and its own, and before the forbidden mask is looked at; 3 where the file ends in it. And which
 -- states set 1 holds.
 abbrev pub UnknownCases : Type 0

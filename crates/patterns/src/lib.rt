@@ -49,7 +49,7 @@ pub fn is_empty(file: &[u8], index: &Index, e: u16) -> StepReply
     StepReply::Passed
 }
 
-// Whether entry e is I, the initial state.
+// Whether entry e is I, the initial states.
 pub fn is_init(file: &[u8], index: &Index, e: u16) -> StepReply
     requires { ⌜ Known (now file) (now index) ⌝ }
     ensures { λ r. ⌜ r ≡ matched (ofSort (decoded (now (file .entry))) 1 e) ⌝ }

@@ -151,7 +151,8 @@ module _ (f : File) (index : List ℕ) (rule a b : ℕ) (lit : literalsOf f (sid
       (omega (arith, dec .right-count, right-number, w .0), apart)
 
   states-anchor : SortedBy f rule x → r .listed ≡ true
-      → (r .anchor < r .«left_count») × T (mayAnchor (listsInit f) (leafIn left (r .anchor) .set)) × (leafIn left (r .anchor) .after ≡ false)
+      → (r .anchor < r .«left_count») × T (mayAnchor (listsInit f) (leafIn left (r .anchor) .set))
+      × (leafIn left (r .anchor) .after ≡ false)
   states-anchor s e =
       let l : r .anchor < toOf rule n = ltb→lt (r .anchor) (toOf rule n) (subst T (sym found) (s .states (sym listed-is ∙ e))) in
       let w = anchor-old f h x index left₀ left (n .left) on-left low-left rule n refl own refl (r .anchor) (dec .anchor) l in

@@ -128,7 +128,8 @@ module _ (f : File) (index : List ℕ) (rule a b : ℕ) (p : Parts) (part : Part
           literalsOf f (sidesOf f m a b) ≡ true
           → (shapeOf f m a b ≡ pairBy (flagsBy f (sidesOf f m a b)))
           × (countBy f (sidesOf f m a b) ≤ 2)
-          × (T (member 3 (movedLeft f (sidesOf f m a b) ++ bracket f (sidesOf f m a b))) → T (hit (listsInit f) (anchorsOf f m (sidesOf f m a b))))
+          × (T (member 3 (movedLeft f (sidesOf f m a b) ++ bracket f (sidesOf f m a b)))
+          → T (hit (listsInit f) (anchorsOf f m (sidesOf f m a b))))
 
       at-four : Pair 4
       unfolding shapeOf sidesOf anchorsOf
@@ -142,7 +143,8 @@ module _ (f : File) (index : List ℕ) (rule a b : ℕ) (p : Parts) (part : Part
 
       sorted-four : r .permitted ≡ true → SortedBy f rule x
       sorted-four e =
-          sorted-pair (flagsBy f x) (countBy f x) (hit (listsInit f) (anchorsOf f rule x)) (holds (sym pair ∙ e)) (paired lit′ .1) (paired lit′ .2)
+          sorted-pair (flagsBy f x) (countBy f x) (hit (listsInit f) (anchorsOf f rule x)) (holds (sym pair ∙ e))
+          (paired lit′ .1) (paired lit′ .2)
 
     pub shape-right : r .permitted ≡ shapeOf f rule a b
     shape-right = by-rule f rule a b p part shape-pair shape-sorts

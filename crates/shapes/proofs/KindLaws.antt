@@ -13,7 +13,8 @@ use lib.Dec.{T, eqb, eqb→eq, leb, ltb, ltb→lt, nltb→le}
 use denote.Enum.Declared.{tagOf}
 use types.Run.{OneOf, miss}
 use Rattle.task.specs.Reach.{member}
-use Rattle.task.proofs.Tests.{both-ways, and-left, and-right, and-both, or-left, or-right, or-cases, excluded, same, member-first, member-rest, member-cases, member-none}
+use Rattle.task.proofs.Tests.{both-ways, and-left, and-right, and-both, or-left, or-right, or-cases, excluded, same}
+use Rattle.task.proofs.Tests.{member-first, member-rest, member-cases, member-none}
 use Rattle.meaning.specs.File.{File, StateSet, basic, complement, intersection, union, progression, regression, stateSetAt, stateKind}
 use Rattle.meaning.specs.Shapes.{kindAt, isBasic}
 use Rattle.counterexample.specs.Counter.{Asked}

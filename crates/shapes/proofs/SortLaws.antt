@@ -87,7 +87,8 @@ module _ (f : File) (a b : ℕ) where
         keep-short (isComplement f) (a ∷ []),
       )
 
-  pub pair-anchor : T (member 3 (movedLeft f (pairSides f a b) ++ bracket f (pairSides f a b))) → T (hit (listsInit f) (movedLeft f (pairSides f a b)))
+  pub pair-anchor : T (member 3 (movedLeft f (pairSides f a b) ++ bracket f (pairSides f a b)))
+      → T (hit (listsInit f) (movedLeft f (pairSides f a b)))
   unfolding bracket hit
   pair-anchor t =
       let w = movedLeft f (pairSides f a b) in

@@ -25,7 +25,9 @@ loop-holds c = (omega arith, c .pre .0, λ j l g. absurd (omega arith))
 tested : (c : tie.After-may-anchor Inv-loop μ-loop)
     → let l = c .before .before .before .before in
     c .may-anchor .result ≡ mayAnchor (l .before .args .few) (leafIn (l .before .args .left .now) (l .loop .j) .set)
-tested c = c .may-anchor .ensures ∙ ap (λ (x : Leaf). mayAnchor (c .before .before .before .before .before .args .few) (x .set)) (c .before .leaf-at .ensures)
+tested c =
+    let few = c .before .before .before .before .before .args .few in
+    c .may-anchor .ensures ∙ ap (λ (x : Leaf). mayAnchor few (x .set)) (c .before .leaf-at .ensures)
 
 returns : tie.Need-returns Inv-loop μ-loop
 returns c =
@@ -37,7 +39,8 @@ loop-again : tie.Need-loop-again Inv-loop μ-loop
 loop-again c =
     let t = c .before in
     let l = t .before .before .before .before in
-    (omega arith, omega arith, anchor-next (l .before .args .few) (l .before .args .left .now) _ _ (l .loop .inv .2) (sym (tested t) ∙ c .if1 .left))
+    let a = l .before .args in
+    (omega arith, omega arith, anchor-next (a .few) (a .left .now) _ _ (l .loop .inv .2) (sym (tested t) ∙ c .if1 .left))
 
 returns-2 : tie.Need-returns-2 Inv-loop μ-loop
 returns-2 c = let v = c .before .loop .inv in record { after = v .0; within = v .1; here = λ l. absurd (omega arith); first = v .2 }

@@ -8,7 +8,8 @@ use Rattle.layout.proofs.after_task.Tie as tie
 returns : tie.Need-returns
 returns c =
     let a = c .before .before .before .before .before .args in
-    first-bad (a .file .now) (a .limits) (a .facts) (a .actions) (a .place) (c .before .first .given .1) (c .before .before .before .counted .ensures)
+    first-bad (a .file .now) (a .limits) (a .facts) (a .actions) (a .place) (c .before .first .given .1)
+    (c .before .before .before .counted .ensures)
 
 returns-2 : tie.Need-returns-2
 returns-2 c =

@@ -10,26 +10,32 @@ returns c = version-cut (c .before .before .before .args .file .now) (c .before 
 
 returns-2 : tie.Need-returns-2
 returns-2 c =
-    version-other (c .before .before .before .before .before .args .file .now) (c .before .before .before .inside .ensures) (c .before .before .if1 .left) (c .before .byte-at .ensures) (c .if2 .taken)
+    let i = c .before .before .before in
+    version-other (i .before .before .args .file .now) (i .inside .ensures) (c .before .before .if1 .left)
+    (c .before .byte-at .ensures) (c .if2 .taken)
 
 returns-3 : tie.Need-returns-3
 returns-3 c =
-    facts-cut (c .before .before .before .before .before .before .before .args .file .now) (c .before .before .before .before .before .inside .ensures) (c .before .before .before .before .if1 .left)
-    (c .before .before .before .byte-at .ensures) (c .before .before .if2 .left) (c .before .inside2 .ensures) (c .if3 .taken)
+    let v = c .before .before .before in
+    let i = v .before .before in
+    facts-cut (i .before .before .args .file .now) (i .inside .ensures) (v .before .if1 .left) (v .byte-at .ensures)
+    (c .before .before .if2 .left) (c .before .inside2 .ensures) (c .if3 .taken)
 
 returns-4 : tie.Need-returns-4
 returns-4 c =
     let s = c .before .before in
-    facts-bad (s .before .before .before .before .before .before .before .args .file .now) (s .before .before .before .before .before .inside .ensures) (s .before .before .before .before .if1 .left)
-    (s .before .before .before .byte-at .ensures) (s .before .before .if2 .left) (s .before .inside2 .ensures) (s .if3 .left)
-    (c .before .byte-at2 .ensures) (c .if4 .taken)
+    let v = s .before .before .before in
+    let i = v .before .before in
+    facts-bad (i .before .before .args .file .now) (i .inside .ensures) (v .before .if1 .left) (v .byte-at .ensures)
+    (s .before .before .if2 .left) (s .before .inside2 .ensures) (s .if3 .left) (c .before .byte-at2 .ensures) (c .if4 .taken)
 
 returns-5 : tie.Need-returns-5
 returns-5 c =
     let s = c .before .before in
-    facts-good (s .before .before .before .before .before .before .before .args .file .now) (s .before .before .before .before .before .inside .ensures) (s .before .before .before .before .if1 .left)
-    (s .before .before .before .byte-at .ensures) (s .before .before .if2 .left) (s .before .inside2 .ensures) (s .if3 .left)
-    (c .before .byte-at2 .ensures) (c .if4 .left)
+    let v = s .before .before .before in
+    let i = v .before .before in
+    facts-good (i .before .before .args .file .now) (i .inside .ensures) (v .before .if1 .left) (v .byte-at .ensures)
+    (s .before .before .if2 .left) (s .before .inside2 .ensures) (s .if3 .left) (c .before .byte-at2 .ensures) (c .if4 .left)
 
 pub opening-spec : {M : Type 1} → statement M
 opening-spec =

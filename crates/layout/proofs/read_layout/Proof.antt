@@ -6,8 +6,10 @@ use Prim.Native.Nat.{ℕ, _+_, _≤_}
 use mathlib.Core.List.{List}
 use lib.ListN.{length}
 use Rattle.bytes.specs.Numbers.{numberAt}
-use Rattle.meaning.specs.Layout.{actionCountAt, actionSize}
+use Rattle.meaning.specs.declared.Limits.{Limits}
+use Rattle.meaning.specs.Layout.{goalAt, actionCountAt, actionSize}
 use Rattle.meaning.proofs.Places.{places, after-actions}
+use Rattle.reader.specs.declared.TaskHead.{TaskHead}
 use Rattle.layout.proofs.HeadLaws.{head-goal, head-actions}
 use Rattle.layout.proofs.LayoutLaws.{rest-ends, length-bad, length-most, length-over, task-bad, rest-bad, lawful}
 use borrow.Author.Needs.{needs}
@@ -37,20 +39,34 @@ returns-3 c =
     task-bad (a .limits) (a .file .now) (e .before .before .before .is-whole .ensures) (e .before .if1 .left) refl (e .if2 .left)
     (c .before .v .given .1) (c .before .before .before .task .ensures)
 
--- the numbers of the task, as the laws of the whole file take them: from `t` on, where what follows the task is told
+-- ---- what is known once what follows the task is told
+
 abbrev bytes : tie.After-after-task → List ℕ
 bytes t = t .before .before .before .before .before .before .before .before .before .before .before .before .before .args .file .now
 
-actions-are : (t : tie.After-after-task) → t .before .before .task-head .result .actions ≡ numberAt 2 (bytes t) (actionCountAt (t .before .before .before .before .byte-at .result))
+abbrev limits : tie.After-after-task → Limits
+limits t = t .before .before .before .before .before .before .before .before .before .before .before .before .before .args .limits
+
+-- the version, and the head that is read by it
+abbrev version : tie.After-after-task → ℕ
+version t = t .before .before .before .before .byte-at .result
+
+abbrev head : tie.After-after-task → TaskHead
+head t = t .before .before .task-head .result
+
+actions-are : (t : tie.After-after-task) → head t .actions ≡ numberAt 2 (bytes t) (actionCountAt (version t))
 actions-are t = head-actions (bytes t) _ _ (t .before .before .before .goal-span .ensures) (t .before .before .task-head .ensures)
 
+goal-is : (t : tie.After-after-task) → head t .goal ≡ numberAt 8 (bytes t) (goalAt (version t))
+goal-is t = head-goal (bytes t) _ _ (t .before .before .before .goal-span .ensures) (t .before .before .task-head .ensures)
+
 -- a section's count is within the file
-ends : (c : tie.After-u16-at3) → (c .before .before .before .before .before .rest2 .given .0 .0 + 2 ≤ 65536) × (c .before .before .before .before .before .rest2 .given .0 .1 .0 + 2 ≤ 65536)
+ends : (c : tie.After-u16-at3)
+    → let x = c .before .before .before .before .before .rest2 .given in (x .0 .0 + 2 ≤ 65536) × (x .0 .1 .0 + 2 ≤ 65536)
 ends c =
     let t = c .before .before .before .before .before .before .before in
-    let head! = t .before .before .task-head in
     let h = short (t .before .before .before .before .before .before .before .before) in
-    let r = rest-ends (t .before .before .before .before .before .before .before .before .before .before .before .before .before .args .limits) (bytes t) (head! .result .facts) (head! .result .actions) (t .before .after-actions .result)
+    let r = rest-ends (limits t) (bytes t) (head t .facts) (head t .actions) _
     (c .before .before .before .before .before .rest2 .given .1) (t .after-task .ensures) in
     (omega (arith, h, r .0), omega (arith, h, r .1))
 
@@ -58,17 +74,17 @@ first-fits : tie.Need-add-t29
 unfolding actionSize
 first-fits c =
     let t = c .before .before .before .before .before .before .before in
-    let v : ℕ = t .before .before .before .before .byte-at .result in
-    let o = places v in
-    let e = after-actions v (t .before .before .task-head .result .actions) in
+    let o = places (version t) in
+    let e = after-actions (version t) (head t .actions) in
     record { fits = omega (arith, t .before .after-actions .ensures) }
 
 returns-4 : tie.Need-returns-4
 returns-4 c =
     let t = c .before .before .before in
     let e = t .before .before .before .before .before .before .before .before in
-    rest-bad (t .before .before .before .before .before .before .before .before .before .before .before .before .before .args .limits) (bytes t) (e .before .before .before .is-whole .ensures) (e .before .if1 .left) refl (e .if2 .left)
-    (t .before .before .before .before .before .enum-told .given .1) (t .before .before .before .before .before .before .before .task .ensures) (t .before .before .before .before .byte-at .ensures)
+    let v = t .before .before .before .before in
+    rest-bad (limits t) (bytes t) (e .before .before .before .is-whole .ensures) (e .before .if1 .left) refl (e .if2 .left)
+    (v .before .enum-told .given .1) (v .before .before .before .task .ensures) (v .byte-at .ensures)
     (λ i. t .before .before .task-head .ensures i .facts) (actions-are t) (t .before .after-actions .ensures)
     (c .before .rest .given .1) (t .after-task .ensures)
 
@@ -77,10 +93,11 @@ returns-5 c =
     let t = c .before .before .before .before .before .before .before in
     let e = t .before .before .before .before .before .before .before .before in
     let head! = t .before .before .task-head in
-    lawful (t .before .before .before .before .before .before .before .before .before .before .before .before .before .args .limits) (bytes t) (e .before .before .before .is-whole .ensures) (e .before .if1 .left) refl (e .if2 .left)
-    (t .before .before .before .before .before .enum-told .given .1) (t .before .before .before .before .before .before .before .task .ensures) (t .before .before .before .before .byte-at .ensures)
+    let v = t .before .before .before .before in
+    lawful (limits t) (bytes t) (e .before .before .before .is-whole .ensures) (e .before .if1 .left) refl (e .if2 .left)
+    (v .before .enum-told .given .1) (v .before .before .before .task .ensures) (v .byte-at .ensures)
     (λ i. head! .ensures i .facts) (actions-are t) (t .before .after-actions .ensures)
-    (λ i. head! .ensures i .init) (c .before .before .before .unknown .ensures) (head-goal (bytes t) _ _ (t .before .before .before .goal-span .ensures) (head! .ensures))
+    (λ i. head! .ensures i .init) (c .before .before .before .unknown .ensures) (goal-is t)
     (c .before .before .u16-at .ensures) (c .before .u16-at2 .ensures) (c .u16-at3 .ensures)
     (c .before .before .before .before .before .rest2 .given .1) (t .after-task .ensures)
 

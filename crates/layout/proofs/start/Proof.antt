@@ -17,23 +17,26 @@ returns c =
 
 returns-2 : tie.Need-returns-2
 returns-2 c =
-    let a = c .before .before .before .before .before .before .before .args in
-    start-bad (a .file .now) (a .version) (a .facts) (c .before .before .before .before .before .has-unknown .ensures) (c .before .before .before .before .if1 .left)
-    (masks-told (a .file .now) (a .facts) 2 6 (c .before .before .before .walk2 .ensures)) (c .before .w .given .1)
+    let w = c .before .before .before in
+    let a = w .before .before .before .before .args in
+    start-bad (a .file .now) (a .version) (a .facts) (w .before .before .has-unknown .ensures) (w .before .if1 .left)
+    (masks-told (a .file .now) (a .facts) 2 6 (w .walk2 .ensures)) (c .before .w .given .1)
 
 returns-3 : tie.Need-returns-3
 returns-3 c =
-    let a = c .before .before .before .before .before .before .before .before .before .args in
-    start-good (a .file .now) (a .version) (a .facts) (c .before .before .before .before .before .before .before .has-unknown .ensures) (c .before .before .before .before .before .before .if1 .left)
-    (masks-told (a .file .now) (a .facts) 2 6 (c .before .before .before .before .before .walk2 .ensures)) (c .before .before .before .enum-told .given .1) (c .before .before .u64-at .ensures)
-    (c .before .u64-at2 .ensures) (c .if2 .taken)
+    let w = c .before .before .before .before .before in
+    let a = w .before .before .before .before .args in
+    start-good (a .file .now) (a .version) (a .facts) (w .before .before .has-unknown .ensures) (w .before .if1 .left)
+    (masks-told (a .file .now) (a .facts) 2 6 (w .walk2 .ensures)) (c .before .before .before .enum-told .given .1)
+    (c .before .before .u64-at .ensures) (c .before .u64-at2 .ensures) (c .if2 .taken)
 
 returns-4 : tie.Need-returns-4
 returns-4 c =
-    let a = c .before .before .before .before .before .before .before .before .before .args in
-    start-clash (a .file .now) (a .version) (a .facts) (c .before .before .before .before .before .before .before .has-unknown .ensures) (c .before .before .before .before .before .before .if1 .left)
-    (masks-told (a .file .now) (a .facts) 2 6 (c .before .before .before .before .before .walk2 .ensures)) (c .before .before .before .enum-told .given .1) (c .before .before .u64-at .ensures)
-    (c .before .u64-at2 .ensures) (c .if2 .left)
+    let w = c .before .before .before .before .before in
+    let a = w .before .before .before .before .args in
+    start-clash (a .file .now) (a .version) (a .facts) (w .before .before .has-unknown .ensures) (w .before .if1 .left)
+    (masks-told (a .file .now) (a .facts) 2 6 (w .walk2 .ensures)) (c .before .before .before .enum-told .given .1)
+    (c .before .before .u64-at .ensures) (c .before .u64-at2 .ensures) (c .if2 .left)
 
 pub start-spec : {M : Type 1} → statement M
 start-spec =

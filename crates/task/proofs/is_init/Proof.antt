@@ -7,7 +7,7 @@ use Rattle.task.proofs.is_init.Tie as tie
 
 returns : tie.Need-returns
 returns c =
-    init-code 64 (c .before .before .before .args .ends) (c .before .before .before .args .state) (search needs) (search needs) (search needs)
+    let a = c .before .before .before .args in init-code 64 (a .ends) (a .state) (search needs) (search needs) (search needs)
 
 pub is-init-spec : {M : Type 1} → statement M
 is-init-spec = tie.close (tie.spec returns)
