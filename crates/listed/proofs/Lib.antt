@@ -1,2 +1,2 @@
-pub mod TriedLaws
+pub mod InitialLaws
 pub mod ShownLaws

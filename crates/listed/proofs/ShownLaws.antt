@@ -2,9 +2,10 @@
 -- Assumes nothing.
 use mathlib.Core.Path.{_≡_, refl, ap, subst, sym, _∙_}
 use mathlib.Core.Logic.{_↔_, inl, inr}
-use Prim.Native.Nat.{ℕ, _^_, _≤_, _<_}
+use Prim.Native.Nat.{ℕ, _+_, _-_, _*_, _^_, _≤_, _<_}
 use native.Mathlib.Omega.{arith}
-use mathlib.Core.Bool.{Bool, true, false, true≢false, not, _&&_, _||_}
+use native.Mathlib.Decide.{decLt}
+use mathlib.Core.Bool.{Bool, true, false, not, _&&_, _||_}
 use mathlib.Core.List.{List}
 use lib.ListN.{length}
 use lib.Dec.{T, eqb, eqb→eq}
@@ -12,28 +13,30 @@ use Rattle.task.specs.declared.Action.{Action}
 use Rattle.task.specs.declared.Ends.{Ends}
 use Rattle.task.specs.Task.{applies, after}
 use Rattle.task.specs.Reach.{member}
-use Rattle.task.proofs.Tests.{and-left, and-right, and-both, or-cases, or-left, or-right, excluded}
+use Rattle.task.proofs.Tests.{and-left, and-right, and-both, both-ways, or-cases, or-left, or-right, excluded}
 use Rattle.task.proofs.Tests.{holds, is-false, never, same, member-none}
-use Rattle.meaning.specs.Sets.{allBelow}
-use Rattle.meaning.proofs.Below.{all-at, all-of}
+use Rattle.bytes.specs.Numbers.{numberAt}
+use Rattle.meaning.specs.Sets.{allBelow, someBelow}
+use Rattle.meaning.proofs.Below.{all-at, all-of, some-at, some-of}
 use Rattle.certificate.specs.declared.Span.{Span}
 use Rattle.certificate.specs.declared.BasicEntry.{BasicEntry}
-use Rattle.certificate.specs.declared.BasicEntry.the-variants.{Explicit}
+use Rattle.certificate.specs.declared.BasicEntry.the-variants.{Empty, Init, Explicit}
 use Rattle.counterexample.specs.Counter.{seen}
 use Rattle.leaves.specs.declared.Leaf.{Leaf}
 use Rattle.leaves.specs.Leaves.{leafIn, leavesIn}
-use Rattle.certificate.specs.Rows.{InOrder}
+use Rattle.certificate.specs.Rows.{rowOf, stateIn, InOrder}
+use Rattle.certificate.proofs.RowLaws.{none-in-order}
 use Rattle.leaves.specs.Holds.{statesAt, setHolds, Orderly}
 use Rattle.leaves.specs.Lists.{leafHolds, Countered}
 use Rattle.leaves.proofs.ListLaws.{each-at, each-of}
-use Rattle.listed.specs.declared.Tried.{Tried}
-use Rattle.listed.specs.Listed.{Anchored}
-use Rattle.listed.specs.Search.{Readable, StatesAfter, TriedOf, stateOf, OneTried, Closed, holdsOne, showsIn}
-use Rattle.listed.proofs.TriedLaws.{tried-good, tried-found}
+use Rattle.listed.specs.Listed.{ListsStates, Anchored}
+use Rattle.listed.specs.Search.{Readable, StatesAfter, Different, Closed, OneInitial, holdsOne, showsIn}
+use Rattle.membership.proofs.SearchLaws.{listed-at, listed-in-order}
+use Rattle.listed.proofs.InitialLaws.{initial-low}
 
 -- leaf j: its set may be asked, and what was asked of it
 module _ (bytes index leaves : List ℕ) (m : ℕ) (h : Readable bytes index leaves m) (j : ℕ) (l : j < m) where
-  pub orderly-at : Orderly bytes index (leafIn leaves j .set)
+  orderly-at : Orderly bytes index (leafIn leaves j .set)
   orderly-at = each-at (λ x. Orderly bytes index (x .set)) leaves m (h .0) (h .1) j l
 
   pub orderly-leaf : {x : Leaf} → x ≡ leafIn leaves j → Orderly bytes index (x .set)
@@ -85,9 +88,17 @@ module _ (bytes : List ℕ) (ends : Ends) (a : Action) (left : List ℕ) (m : �
 
 -- the states of the first right leaf are in order, and one that leads to them is not shown
 module _ (bytes : List ℕ) (right : List ℕ) (r : ℕ) (p : Span) where
-  pub states-ordered : (index : List ℕ) → Readable bytes index right r → StatesAfter right r p → 0 < p .count → InOrder bytes index p
-  states-ordered index h (inl e) some = absurd (omega (arith, ap (λ (x : Span). x .count) e))
-  states-ordered index h (inr (l, k, f)) some = subst (Orderly bytes index) k (orderly-at bytes index right r h 0 l)
+  first-ordered : (index : List ℕ) → Readable bytes index right r → 1 ≤ r → leafIn right 0 .set ≡ Explicit p → InOrder bytes index p
+  first-ordered index h l k = subst (Orderly bytes index) k (orderly-at bytes index right r h 0 l)
+
+  pub states-ordered : (index : List ℕ) → length bytes ≤ 65536 → Readable bytes index right r → StatesAfter right r p
+      → InOrder bytes index p
+  states-ordered index short h (inl e) = rw e (none-in-order bytes index short)
+  states-ordered index short h (inr (l, k, f)) = first-ordered index h l k
+
+  pub some-ordered : (index : List ℕ) → Readable bytes index right r → StatesAfter right r p → 0 < p .count → InOrder bytes index p
+  some-ordered index h (inl e) some = absurd (omega (arith, ap (λ (x : Span). x .count) e))
+  some-ordered index h (inr (l, k, f)) some = first-ordered index h l k
 
   pub closed-shows : (ends : Ends) (a : Action) (left : List ℕ) (m anchor s : ℕ) → StatesAfter right r p → Closed bytes p a s
       → showsIn bytes ends a left m right r anchor s ≡ false
@@ -172,25 +183,38 @@ module _ (bytes : List ℕ) (ends : Ends) (a : Action) (left : List ℕ) (m : �
   counters-anchor w =
       subst T (anchor-asked (w .state)) (each-at (λ x. T (leafHolds bytes ends a (w .state) x)) left m room (w .holds) anchor among)
 
-  -- ---- the states to try are the anchor's
+  -- ---- the anchor lists no state; the initial states; those of a span
 
-  module _ (index : List ℕ) (t : Tried) (o : Orderly bytes index set) (h : TriedOf index ends set t) where
-    pub shown-none : t .some ≡ false → T false ↔ Found
-    shown-none e = (
-      (λ x. absurd x),
-      (λ w. true≢false (sym (tried-found bytes index ends t set o (is .1) h (w .state) (counters-anchor w) .0) ∙ e)),
-    )
+  pub shown-none : set ≡ Empty → T false ↔ Found
+  unfolding setHolds
+  shown-none e = ((λ x. absurd x), (λ w. subst (λ (y : BasicEntry). Of y (w .state)) e (counters-anchor w)))
 
-    pub shown-some : (b : Bool) → t .some ≡ true → (T b ↔ OneTried bytes index t In) → T b ↔ Found
-    shown-some b e q = (
-      (λ x.
-          let (d, k, i) = q .0 x in
-          let (held, low) = tried-good bytes index ends t set o (is .1) h e d k in
-          counters-of (stateOf bytes index t d) low held i),
-      (λ w.
-          let (_, d, k, r) = tried-found bytes index ends t set o (is .1) h (w .state) (counters-anchor w) in
-          q .1 (d, k, subst (λ (s : ℕ). T (In s)) r (counters-in w))),
-    )
+  -- any other set is not an anchor's
+  pub shown-never : (y : BasicEntry) → set ≡ y → (ListsStates bytes ends y → ⊥) → T false ↔ Found
+  shown-never y e n = absurd (n (subst (ListsStates bytes ends) e (is .1)))
+
+  pub shown-initial : (b : Bool) → set ≡ Init → (T b ↔ OneInitial ends In) → T b ↔ Found
+  unfolding setHolds
+  shown-initial b e q = (
+    (λ t.
+        let (s, h, i) = q .0 t in
+        counters-of s (initial-low ends s (subst (ListsStates bytes ends) e (is .1)) h) (rw e h) i),
+    (λ w. q .1 (w .state, subst (λ (y : BasicEntry). Of y (w .state)) e (counters-anchor w), counters-in w)),
+  )
+
+  pub shown-some : {b : Bool} (index : List ℕ) (x : Span) → InOrder bytes index x → set ≡ Explicit x
+      → b ≡ someBelow (x .count) (λ i. In (stateIn bytes index x i)) → T b ↔ Found
+  unfolding setHolds
+  shown-some index x o e q = rw q (
+    (λ t.
+        let w = some-at (x .count) _ t in
+        let h = listed-at bytes (x .at) (x .count) (rowOf index x (w .0)) (o .below (w .0) (w .1)) in
+        counters-of (stateIn bytes index x (w .0)) (subst (ListsStates bytes ends) e (is .1) _ h) (rw e h) (w .2)),
+    (λ w.
+        let h = subst (λ (y : BasicEntry). Of y (w .state)) e (counters-anchor w) in
+        let v = listed-in-order bytes index x (w .state) o h in
+        some-of (x .count) _ (v .0) (v .1) (subst (λ (s : ℕ). T (In s)) (v .2) (counters-in w))),
+  )
 
 -- ---- what was found last
 
@@ -203,3 +227,29 @@ same-again near t last e = (
     | inr n ↦ absurd (subst T e (or-right (eqb near 0) (not (eqb t last)) n))
   ]),
 )
+
+-- ---- the states that differ
+
+module _ {bytes index : List ℕ} {x : Span} (o : InOrder bytes index x) {m : ℕ} (d : Different index x m) where
+  -- those behind them are the last of them again
+  again : (k : ℕ) → m ≤ k → k < x .count → stateIn bytes index x k ≡ stateIn bytes index x (m - 1)
+  again k l h =
+      let (some, named) = d .1 (omega arith) in
+      let e = ap (λ (r : ℕ). numberAt 8 bytes (x .at + 8 * r)) named in
+      let a = o .ascend (m - 1) k (omega arith) h in
+      let b = o .ascend k (x .count - 1) (omega arith) (omega arith) in
+      omega arith
+
+  -- so it is enough to look at them
+  pub some-different : (p : ℕ → Bool)
+      → someBelow m (λ i. p (stateIn bytes index x i)) ≡ someBelow (x .count) (λ i. p (stateIn bytes index x i))
+  some-different p = both-ways _ _
+      (λ t. let (k, l, h) = some-at m _ t in some-of (x .count) _ k (omega (arith, d .0)) h)
+      (λ t.
+      let (k, l, h) = some-at (x .count) _ t in
+      elim (decLt k m) [
+        | yes n ↦ some-of m _ k n h
+        | no n ↦
+            let (some, named) = d .1 (omega arith) in
+            some-of m _ (m - 1) (omega arith) (subst (λ (s : ℕ). T (p s)) (again k (omega arith) l) h)
+      ])

@@ -6,6 +6,7 @@ use leaves::Leaf;
 use leaves::leaf_at;
 use membership::by_rows;
 use membership::find;
+use membership::search;
 use membership::set_holds;
 use membership::state_in;
 use task::Action;
@@ -14,18 +15,18 @@ use task::after;
 use task::applies;
 ghost use mathlib.Core.Path.{_≡_};
 ghost use mathlib.Core.Logic.{_↔_};
-ghost use Prim.Native.Nat.{_+_, _*_, _≤_, _<_};
+ghost use Prim.Native.Nat.{ℕ, _+_, _*_, _≤_, _<_};
 ghost use mathlib.Core.Bool.{not, _||_};
 ghost use lib.ListN.{length};
 ghost use lib.Dec.{T, eqb};
-ghost use Rattle.meaning.specs.Sets.{allBelow};
-ghost use Rattle.certificate.specs.Rows.{listedBy, byRows, InOrder};
+ghost use Rattle.task.specs.Facts.{allOn};
+ghost use Rattle.meaning.specs.Sets.{allBelow, someBelow};
+ghost use Rattle.certificate.specs.Rows.{byRows, stateIn, InOrder};
 ghost use Rattle.leaves.specs.Leaves.{leafIn, leavesIn};
 ghost use Rattle.leaves.specs.Holds.{Orderly};
 ghost use Rattle.leaves.specs.Lists.{Each, Countered};
 ghost use Rattle.listed.specs.Listed.{Anchored};
-ghost use Rattle.listed.specs.Search.{Readable, StatesAfter, LastDifferent, TriedOf, Numbered, Step, stateOf, Past};
-ghost use Rattle.listed.specs.Search.{OneTried, Closed, holdsOne, showsIn};
+ghost use Rattle.listed.specs.Search.{Readable, StatesAfter, Different, Closed, topOf, Passed, OneInitial, holdsOne, showsIn};
 
 // Whether a leaf holds s, or t where it is asked about the state after the action.
 fn holds_one(file: &[u8], index: &Index, ends: Ends, x: Leaf, s: u64, t: u64) -> bool
@@ -131,17 +132,17 @@ fn states_after(right: &[u64], r: usize) -> Span
     states
 }
 
-// The number of the last listed state, by size, that differs from those before it: those behind it are the same.
-fn last_different(index: &Index, x: Span, rows: bool) -> usize
+// How many listed states differ: by size, those behind them are the last of them again.
+fn different(index: &Index, x: Span, rows: bool) -> usize
     requires { ⌜ (x .at + 8 * x .count ≤ 65536) × (rows ≡ byRows (now index)) ⌝ }
-    ensures { λ k. ⌜ LastDifferent (now (index .entry)) x k ⌝ }
+    ensures { λ m. ⌜ Different (now (index .entry)) x m ⌝ }
 {
     let count = x.count as usize;
     if count == 0 {
         return 0;
     }
     if !rows {
-        return count - 1;
+        return count;
     }
     let first = 768 + x.at as usize / 8;
     let last = index[first + (count - 1)];
@@ -155,81 +156,23 @@ fn last_different(index: &Index, x: Span, rows: bool) -> usize
             lo = mid + 1;
         }
     }
-    hi
+    hi + 1
 }
 
-// The states to try, where there are some: those with the numbers top - d, for each d within the mask from top's part of it down to 0.
-// A number is an initial state itself, where the mask has the unknown facts, or that of a listed state by size, where it has all bits.
-struct Tried {
-    some: bool,
-    initial: bool,
-    listed: Span,
-    top: u64,
-    mask: u64,
-}
-
-// The states of a set that lists them; none of any other set.
-fn states_to_try(index: &Index, ends: Ends, set: BasicEntry, rows: bool) -> Tried
-    requires { ⌜ (listedBy set .at + 8 * listedBy set .count ≤ 65536) × (rows ≡ byRows (now index)) ⌝ }
-    ensures { λ t. ⌜ TriedOf (now (index .entry)) ends set t ⌝ }
-{
-    let none = Tried {
-        some: false,
-        initial: true,
-        listed: Span { at: 0, count: 0 },
-        top: 0,
-        mask: 0,
-    };
-    let unknown = ends.unknown;
-    match set {
-        BasicEntry::Empty => none,
-        BasicEntry::Init => Tried {
-            some: true,
-            initial: true,
-            listed: Span { at: 0, count: 0 },
-            top: ends.init | unknown,
-            mask: unknown,
-        },
-        BasicEntry::Goal => none,
-        BasicEntry::Explicit(x) => Tried {
-            some: x.count != 0,
-            initial: false,
-            listed: x,
-            top: last_different(index, x, rows) as u64,
-            mask: 18446744073709551615,
-        },
-        BasicEntry::Horn(_) => none,
-        BasicEntry::TwoCnf(_) => none,
-    }
-}
-
-// The state to try with the number top - d.
-fn state_of(file: &[u8], index: &Index, t: Tried, rows: bool, d: u64) -> u64
-    requires { ⌜ Numbered (now file) (now index) t × (rows ≡ byRows (now index)) × (d ≤ t .top) ⌝ }
-    ensures { λ s. ⌜ s ≡ stateOf (now (file .entry)) (now (index .entry)) t d ⌝ }
-{
-    let n = t.top - d;
-    if t.initial {
-        n
-    } else {
-        state_in(file, index, t.listed, rows, n as usize)
-    }
-}
-
-// The first state to try, from d = `from` on, in which the action applies and does not lead into listed states; or the last one, which is
-// not looked at. What it leads to is looked for behind what was found last, and not again where it is the same.
+// The first of listed states, by size, from number `from` on and before `to`, in which the action applies and does not lead into other
+// listed states. What it leads to is looked for behind what was found last, and not again where it is the same.
 fn first_open(
     file: &[u8],
     index: &Index,
-    t: Tried,
-    from: u64,
+    x: Span,
+    from: usize,
+    to: usize,
     into: Span,
     rows: bool,
     a: Action,
-) -> u64
-    requires { ⌜ Numbered (now file) (now index) t × (rows ≡ byRows (now index)) × Step t from ⌝ }
-    requires { ⌜ (0 < into .count → InOrder (now file) (now index) into) ⌝ }
-    ensures { λ r. ⌜ Step t r × (r ≤ from) × Past (now (file .entry)) (now (index .entry)) t (Closed (now (file .entry)) into a) from r ⌝ }
+) -> usize
+    requires { ⌜ InOrder (now file) (now index) x × InOrder (now file) (now index) into × (rows ≡ byRows (now index)) × (from ≤ to) × (to ≤ x .count) ⌝ }
+    ensures { λ r. ⌜ (r ≤ to) × (from ≤ r) × ((k : ℕ) → from ≤ k → k < r → Closed (now (file .entry)) into a (stateIn (now (file .entry)) (now (index .entry)) x k)) ⌝ }
 {
     let many = into.count as usize;
     if many == 0 {
@@ -237,26 +180,26 @@ fn first_open(
     }
     let mut near: usize = 0;
     let mut last: u64 = 0;
-    let mut d = from;
-    while d != 0 {
-        let s = state_of(file, index, t, rows, d);
+    let mut i = from;
+    while i < to {
+        let s = state_in(file, index, x, rows, i);
         if applies(a, s) {
-            let u = after(a, s);
-            if (near == 0) | (u != last) {
-                let k = find(file, index, into, rows, near, u);
+            let t = after(a, s);
+            if (near == 0) | (t != last) {
+                let k = find(file, index, into, rows, near, t);
                 if many <= k {
-                    return d;
+                    return i;
                 }
                 near = k + 1;
-                last = u;
+                last = t;
             }
         }
-        d = (d - 1) & t.mask;
+        i += 1;
     }
-    d
+    i
 }
 
-// Whether one of the states to try does. One from which the action leads into the first right leaf does not.
+// Whether one of the anchor's listed states does. One from which the action leads into the first right leaf does not.
 fn one_shows(
     file: &[u8],
     index: &Index,
@@ -267,25 +210,92 @@ fn one_shows(
     r: usize,
     anchor: usize,
     a: Action,
-    t: Tried,
-    rows: bool,
+    x: Span,
 ) -> bool
     requires { ⌜ Readable (now file) (now index) (now left) m × Readable (now file) (now index) (now right) r ⌝ }
-    requires { ⌜ Numbered (now file) (now index) t × (rows ≡ byRows (now index)) ⌝ }
-    ensures { λ b. ⌜ T b ↔ OneTried (now (file .entry)) (now (index .entry)) t (showsIn (now (file .entry)) ends a (now (left .entry)) m (now (right .entry)) r anchor) ⌝ }
+    requires { ⌜ InOrder (now file) (now index) x ⌝ }
+    ensures { λ b. ⌜ b ≡ someBelow (x .count) (λ i. showsIn (now (file .entry)) ends a (now (left .entry)) m (now (right .entry)) r anchor (stateIn (now (file .entry)) (now (index .entry)) x i)) ⌝ }
 {
+    let rows = by_rows(index);
     let into = states_after(right, r);
-    let mut d = t.top & t.mask;
-    loop {
-        d = first_open(file, index, t, d, into, rows, a);
-        let s = state_of(file, index, t, rows, d);
+    let count = different(index, x, rows);
+    let mut i = first_open(file, index, x, 0, count, into, rows, a);
+    while i < count {
+        let s = state_in(file, index, x, rows, i);
         if shows_in(file, index, ends, left, m, right, r, anchor, a, s) {
+            return true;
+        }
+        i = first_open(file, index, x, i + 1, count, into, rows, a);
+    }
+    false
+}
+
+// The first initial state, from d = `from` on, in which the action applies and does not lead into listed states; or the last one, which is
+// not looked at. The initial states are top - d, for every d within the unknown facts: they ascend as d goes down. What the action leads to
+// is looked for behind what was found last.
+fn first_initial(
+    file: &[u8],
+    index: &Index,
+    ends: Ends,
+    from: u64,
+    into: Span,
+    rows: bool,
+    a: Action,
+) -> u64
+    requires { ⌜ (rows ≡ byRows (now index)) × T (allOn from (ends .unknown)) × (0 < into .count → InOrder (now file) (now index) into) ⌝ }
+    ensures { λ r. ⌜ T (allOn r (ends .unknown)) × (r ≤ from) × Passed (topOf ends) (ends .unknown) (Closed (now (file .entry)) into a) from r ⌝ }
+{
+    let many = into.count as usize;
+    if many == 0 {
+        return from;
+    }
+    let unknown = ends.unknown;
+    let top = ends.init | unknown;
+    let mut near: usize = 0;
+    let mut d = from;
+    while d != 0 {
+        let s = top - d;
+        if applies(a, s) {
+            let k = search(file, index, into, rows, near, after(a, s));
+            if many <= k {
+                return d;
+            }
+            near = k + 1;
+        }
+        d = (d - 1) & unknown;
+    }
+    d
+}
+
+// Whether one of the initial states does. One from which the action leads into the first right leaf does not.
+fn initial_shows(
+    file: &[u8],
+    index: &Index,
+    ends: Ends,
+    left: &[u64],
+    m: usize,
+    right: &[u64],
+    r: usize,
+    anchor: usize,
+    a: Action,
+) -> bool
+    requires { ⌜ Readable (now file) (now index) (now left) m × Readable (now file) (now index) (now right) r ⌝ }
+    ensures { λ b. ⌜ T b ↔ OneInitial ends (showsIn (now (file .entry)) ends a (now (left .entry)) m (now (right .entry)) r anchor) ⌝ }
+{
+    let rows = by_rows(index);
+    let into = states_after(right, r);
+    let unknown = ends.unknown;
+    let top = ends.init | unknown;
+    let mut d = unknown;
+    loop {
+        d = first_initial(file, index, ends, d, into, rows, a);
+        if shows_in(file, index, ends, left, m, right, r, anchor, a, top - d) {
             return true;
         }
         if d == 0 {
             return false;
         }
-        d = (d - 1) & t.mask;
+        d = (d - 1) & unknown;
     }
 }
 
@@ -307,10 +317,14 @@ pub fn shown(
 {
     let x = leaf_at(left, anchor);
     let set = x.set;
-    let rows = by_rows(index);
-    let t = states_to_try(index, ends, set, rows);
-    if !t.some {
-        return false;
+    match set {
+        BasicEntry::Empty => false,
+        BasicEntry::Init => initial_shows(file, index, ends, left, m, right, r, anchor, a),
+        BasicEntry::Goal => false,
+        BasicEntry::Explicit(states) => {
+            one_shows(file, index, ends, left, m, right, r, anchor, a, states)
+        }
+        BasicEntry::Horn(_) => false,
+        BasicEntry::TwoCnf(_) => false,
     }
-    one_shows(file, index, ends, left, m, right, r, anchor, a, t, rows)
 }

@@ -48,7 +48,7 @@ pub fn state_in(file: &[u8], index: &Index, x: Span, rows: bool, k: usize) -> u6
 
 // Which of listed states a state is, by size, and their number where it is none of them. It is looked for from a guess in growing steps,
 // and then by halves: the states after an action often stand as those before it do.
-fn search(file: &[u8], index: &Index, x: Span, rows: bool, guess: usize, s: u64) -> usize
+pub fn search(file: &[u8], index: &Index, x: Span, rows: bool, guess: usize, s: u64) -> usize
     requires { ⌜ InOrder (now file) (now index) x × (rows ≡ byRows (now index)) ⌝ }
     ensures { λ k. ⌜ ltb k (x .count) ≡ member s (statesAt (now (file .entry)) (x .at) (x .count)) ⌝ }
 {

@@ -1,66 +1,86 @@
--- `listed::shown` meets its contract: the states to try are those of the anchor.
+-- `listed::shown` meets its contract: the anchor lists no state, the initial states, or those of a span.
 -- Assumes nothing.
-use mathlib.Core.Path.{subst}
+use mathlib.Core.Path.{_≡_, ap, subst, sym, _∙_}
+use mathlib.Core.Bool.{false}
+use mathlib.Core.Logic.{_↔_}
+use lib.Dec.{T}
 use borrow.Author.Needs.{needs}
-use borrow.Author.Tests.{not-true, not-false}
+use Rattle.certificate.specs.declared.BasicEntry.{BasicEntry}
+use Rattle.certificate.specs.Rows.{InOrder}
 use Rattle.leaves.specs.declared.Leaf.{Leaf}
-use Rattle.leaves.specs.Leaves.{leafIn}
+use Rattle.leaves.specs.Leaves.{leafIn, leavesIn}
 use Rattle.leaves.specs.Holds.{Orderly}
-use Rattle.listed.specs.Search.{TriedOf}
-use Rattle.listed.proofs.TriedLaws.{listed-inside, tried-numbered}
-use Rattle.listed.proofs.ShownLaws.{orderly-at, orderly-leaf, shown-none, shown-some}
+use Rattle.leaves.specs.Lists.{Countered}
+use Rattle.listed.specs.Listed.{ListsStates}
+use Rattle.listed.proofs.ShownLaws.{orderly-leaf, shown-none, shown-never, shown-initial, shown-some}
 use Rattle.listed.proofs.shown.Statement.{statement}
 use Rattle.listed.proofs.shown.Tie as tie
 
--- the anchor's set may be asked
-anchor-orderly : (c : tie.Start) → let a = c .args in Orderly (a .file .now) (a .index .now) (leafIn (a .left .now) (a .anchor) .set)
-anchor-orderly c = let p = c .pre in orderly-at _ _ _ _ (p .0 .0, p .1 .0) _ (p .0 .2)
+-- the anchor's set
+set-is : (c : tie.After-leaf-at) (y : BasicEntry) → c .leaf-at .result .set ≡ y → let a = c .before .before .before .before .args in
+    leafIn (a .left .now) (a .anchor) .set ≡ y
+set-is c y e = ap (λ (x : Leaf). x .set) (sym (c .leaf-at .ensures)) ∙ e
 
-states-to-try-requires : tie.Need-states-to-try-requires
-states-to-try-requires c κs =
-    let p = c .before .before .before .before .before .pre in
-    (listed-inside _ _ _ (orderly-leaf _ _ _ _ (p .0 .0, p .1 .0) _ (p .0 .2) (c .before .leaf-at .ensures)), c .by-rows .ensures)
+never : (c : tie.After-leaf-at) (y : BasicEntry) → c .leaf-at .result .set ≡ y → let a = c .before .before .before .before .args in
+    (ListsStates (a .file .now) (a .ends) y → ⊥)
+    → T false ↔ Countered (a .file .now) (a .ends) (a .a) (leavesIn (a .left .now) (a .m)) (leavesIn (a .right .now) (a .r))
+never c y e n =
+    let p = c .before .before .before .before .pre .0 in
+    shown-never _ _ _ _ _ _ _ _ (p .0) (p .1) (p .2) (p .3) y (set-is c y e) n
 
--- the states to try are those of the anchor's set
-anchor-tried : (c : tie.After-states-to-try) → let a = c .before .before .before .before .before .before .args in
-    TriedOf (a .index .now) (a .ends) (leafIn (a .left .now) (a .anchor) .set) (c .states-to-try .result)
-anchor-tried c =
-    let a = c .before .before .before .before .before .before .args in
-    subst (λ (x : Leaf). TriedOf (a .index .now) (a .ends) (x .set) (c .states-to-try .result)) (c .before .before .leaf-at .ensures)
-    (c .states-to-try .ensures)
+initial-shows-requires : tie.Need-initial-shows-requires
+initial-shows-requires c κs = let p = c .before .before .before .before .before .before .pre in ((p .0 .0, p .1 .0), (p .0 .1, p .1 .1))
 
-returns : tie.Need-returns
-returns c =
-    let s = c .before .before .before .before .before .before .before .before in
-    let p = s .pre .0 in
-    shown-none _ _ _ _ _ _ _ _ (p .0) (p .1) (p .2) (p .3) _ _ (anchor-orderly s) (anchor-tried (c .before .before))
-    (not-true _ (c .if1 .taken))
+-- the anchor's states are in order
+in-order : (c : tie.After-set) → let a = c .before .before .before .before .before .before .args in
+    InOrder (a .file .now) (a .index .now) (c .set .given .0 .0)
+in-order c =
+    let v = c .before .before in
+    let p = v .before .before .before .before .pre in
+    let o = orderly-leaf _ _ _ _ (p .0 .0, p .1 .0) _ (p .0 .2) (v .leaf-at .ensures) in
+    subst (Orderly _ _) (c .set .given .1) o
 
 one-shows-requires : tie.Need-one-shows-requires
 one-shows-requires c κs =
-    let v = c .before .before in
-    let s = v .before .before .before .before .before .before in
-    let a = s .args in
-    let p = s .pre in
-    let t = v .states-to-try .result in
-    let numbered = tried-numbered (a .file .now) (a .index .now) (a .ends) t (leafIn (a .left .now) (a .anchor) .set)
-    (anchor-orderly s) (p .0 .3 .1) (anchor-tried v) (not-false (t .some) (c .if1 .left)) in
-    (((p .0 .0, p .1 .0), (p .0 .1, p .1 .1)), (numbered, v .before .by-rows .ensures))
+    let p = c .before .before .before .before .before .before .before .pre in
+    (((p .0 .0, p .1 .0), (p .0 .1, p .1 .1)), in-order (c .before))
 
-returns-2 : tie.Need-returns-2
-returns-2 c =
-    let s = c .before .before .before .before .before .before .before .before .before in
-    let p = s .pre .0 in
-    shown-some _ _ _ _ _ _ _ _ (p .0) (p .1) (p .2) (p .3) _ _ (anchor-orderly s) (anchor-tried (c .before .before .before))
-    (c .one-shows .result) (not-false _ (c .before .if1 .left)) (c .one-shows .ensures)
+returns-empty : tie.Need-returns
+returns-empty c =
+    let v = c .before .before in
+    let p = v .before .before .before .before .pre .0 in
+    shown-none _ _ _ _ _ _ _ _ (p .0) (p .1) (p .2) (p .3) (set-is v _ (c .enum-told .given .1))
+
+returns-init : tie.Need-returns-2
+returns-init c =
+    let v = c .before .before .before in
+    let p = v .before .before .before .before .pre .0 in
+    shown-initial _ _ _ _ _ _ _ _ (p .0) (p .1) (p .2) (p .3) (c .initial-shows .result)
+    (set-is v _ (c .before .enum-told2 .given .1)) (c .initial-shows .ensures)
+
+returns-explicit : tie.Need-returns-4
+returns-explicit c =
+    let v = c .before .before .before .before in
+    let p = v .before .before .before .before .pre .0 in
+    shown-some _ _ _ _ _ _ _ _ (p .0) (p .1) (p .2) (p .3) _ _ (in-order (c .before .before))
+    (set-is v _ (c .before .before .set .given .1)) (c .one-shows .ensures)
 
 pub shown-spec : {M : Type 1} → statement M
 shown-spec =
     tie.close
     (tie.spec
     (λ c κs. search needs)
-    (λ c κs. search needs)
-    states-to-try-requires
-    returns
+    (λ c. search needs)
+    (λ c. search needs)
+    initial-shows-requires
+    (λ c. search needs)
+    (λ c. search needs)
     one-shows-requires
-    returns-2)
+    (λ c. search needs)
+    (λ c. search needs)
+    returns-empty
+    returns-init
+    (λ c. never (c .before .before) _ (c .enum-told3 .given .1) (λ x. x))
+    returns-explicit
+    (λ c. never (c .before .before) _ (c .enum-told4 .given .1) (λ x. x))
+    (λ c. never (c .before .before) _ (c .enum-told5 .given .1) (λ x. x)))

@@ -1,14 +1,15 @@
--- `listed::last_different` meets its contract. The invariant: the row at `hi` is the last one.
+-- `listed::different` meets its contract. The invariant: the row at `hi` is the last one.
 -- Assumes nothing.
-use mathlib.Core.Path.{_≡_, refl, sym, _∙_}
+use mathlib.Core.Path.{_≡_, refl, ap, sym, _∙_}
 use Prim.Native.Nat.{_+_, _-_, _≤_, _<_}
 use native.Mathlib.Omega.{arith}
 use lib.ListN.{getD}
 use borrow.Author.Needs.{needs}
 use borrow.Author.Tests.{not-false}
+use Rattle.certificate.specs.Rows.{rowOf}
 use Rattle.certificate.proofs.RowLaws.{row-some}
-use Rattle.listed.proofs.last_different.Statement.{statement}
-use Rattle.listed.proofs.last_different.Tie as tie
+use Rattle.listed.proofs.different.Statement.{statement}
+use Rattle.listed.proofs.different.Tie as tie
 
 abbrev Inv-loop : tie.InvT-loop
 Inv-loop index rows count first last lo₀ hi₀ lo hi = (lo ≤ hi) × (hi < count) × (getD index (first + hi) 0 ≡ last)
@@ -31,21 +32,24 @@ returns-3 c =
     let s = c .before .before .before .before .before .before .before in
     let a = s .args in
     let b = sym (s .pre .1) ∙ not-false (a .rows) (c .before .before .before .before .if2 .left) in
-    λ _. (
+    let e : v .hi + 1 - 1 ≡ v .hi = omega arith in (
       search needs,
-      row-some (a .index .now) (a .x) (v .hi) b ∙ v .inv .2 ∙ sym (row-some (a .index .now) (a .x) (a .x .count - 1) b),
+      λ _. (
+        search needs,
+        ap (rowOf (a .index .now) (a .x)) e ∙ row-some (a .index .now) (a .x) (v .hi) b ∙ v .inv .2
+            ∙ sym (row-some (a .index .now) (a .x) (a .x .count - 1) b),
+      ),
     )
 
-pub last-different-spec : {M : Type 1} → statement M
-last-different-spec =
+pub different-spec : {M : Type 1} → statement M
+different-spec =
     tie.close
     (tie.spec
     Inv-loop
     μ-loop
     (λ c. search needs)
-    (λ c l. absurd (omega (arith, c .if1 .taken)))
-    (λ c. search needs)
-    (λ c l. (search needs, refl))
+    (λ c. (search needs, λ l. absurd (omega (arith, c .if1 .taken))))
+    (λ c. (search needs, λ l. (l, refl)))
     (λ c. search needs)
     (λ c. search needs)
     (λ c. search needs)
@@ -64,4 +68,5 @@ last-different-spec =
     (λ c. search needs)
     (λ c. search needs)
     loop-again-2
+    (λ c. search needs)
     returns-3)
