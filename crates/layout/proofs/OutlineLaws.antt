@@ -1,12 +1,12 @@
 -- What is read of a file, beside what the code reads of it.
 -- Assumes nothing.
 use mathlib.Core.Path.{_≡_, refl, sym, ap, ap₂, _∙_, subst}
-use Prim.Native.Nat.{ℕ, zero, suc, _+_, _*_, _^_}
+use Prim.Native.Nat.{ℕ, zero, suc, _+_, _*_}
 use native.Mathlib.Omega.{arith}
 use mathlib.Core.Bool.{true}
 use mathlib.Core.List.{List}
 use lib.ListN.{length}
-use lib.Dec.{leb, ltb}
+use lib.Dec.{leb}
 use Rattle.task.specs.Inner.{endsOf}
 use Rattle.task.specs.Task.{Task}
 use Rattle.certificate.specs.declared.Places.{Places}
@@ -22,7 +22,7 @@ use Rattle.meaning.specs.Writing.{FitsAction}
 use Rattle.bodies.specs.Faults.{fault}
 use Rattle.layout.specs.Sections.{unknownAt, sectionAt, stepCountAt, stepsAt, restAt}
 use Rattle.meaning.proofs.Reading.{task-walked}
-use Rattle.meaning.proofs.Results.{bind-case, need-case, found-same}
+use Rattle.meaning.proofs.Results.{bind-case, found-same}
 use Rattle.meaning.proofs.Given.{action-gives, items-give, action-sets-give, state-sets-give}
 use Rattle.bytes.proofs.ByteLaws.{number-in}
 use Rattle.layout.proofs.SectionChecks.{field-is, count-is, entry-fine}

@@ -20,7 +20,7 @@ use Rattle.meaning.specs.Layout.{items, field, count, mask, action, goalAt, act
 use Rattle.meaning.specs.Layout.{unknownMask, readTask}
 use Rattle.bodies.specs.Faults.{fault}
 use Rattle.layout.specs.Sections.{factsAt, startAt, unknownAt}
-use Rattle.meaning.proofs.Results.{bind-case, bind-same, bind-assoc, need-case, found-same}
+use Rattle.meaning.proofs.Results.{bind-case, bind-same, need-case, found-same}
 use Rattle.meaning.proofs.Places.{goal-first, goal-later}
 use Rattle.meaning.proofs.Unknown.{Unknown, none, some, unknown-out}
 use Rattle.bytes.proofs.ByteLaws.{inside-out}

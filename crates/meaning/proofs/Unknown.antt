@@ -1,7 +1,7 @@
 -- The field of the unknown facts: it is there or not, as the version says. All that the proofs know of it.
 -- Assumes nothing.
-use mathlib.Core.Path.{_≡_, refl, sym, ap, _∙_, subst}
-use mathlib.Core.Logic.{_⊎_, inl, inr}
+use mathlib.Core.Path.{_≡_, refl, sym, subst}
+use mathlib.Core.Logic.{inl, inr}
 use Prim.Native.Nat.{ℕ, _^_, _<_}
 use native.Mathlib.Omega.{arith}
 use mathlib.Core.Bool.{Bool, true, false, _||_}
@@ -11,7 +11,7 @@ use lib.Pow.{pow-pos}
 use lib.Dec.{T, eqb, eqb→eq}
 use Rattle.task.specs.Task.{Task}
 use Rattle.task.proofs.Tests.{same, or-cases}
-use Rattle.meaning.specs.Result.{found, _>>=_, need}
+use Rattle.meaning.specs.Result.{found, need}
 use Rattle.meaning.specs.Bytes.{bytesOf, AreBytes}
 use Rattle.meaning.specs.Layout.{mask, goalAt, unknownMask}
 use Rattle.meaning.specs.Writing.{writeUnknown, FitsTask, FitsVersion}

@@ -2,17 +2,15 @@
 -- With it the initial states of a task: each is the start with all unknown facts on, less a mask within the unknown facts.
 -- Assumes nothing.
 use mathlib.Core.Path.{_≡_, sym, ap, _∙_}
-use Prim.Native.Nat.{ℕ, _+_, _-_, _*_, _/_, _%_, _^_, _≤_, _<_, min, max}
-use native.Mathlib.Nat.{mod-eq-of-lt}
+use Prim.Native.Nat.{ℕ, _+_, _-_, _*_, _/_, _%_, _≤_, _<_, min, max}
 use native.Mathlib.Omega.{arith}
 use native.Mathlib.Decide.{decLt}
 use lib.Arith.{bin-ind}
-use lib.Bits.{bitAnd, bitOr, and-step, and-zero-l, and-comm, and-le-l, and-mask}
+use lib.Bits.{bitAnd, bitOr, and-step, and-zero-l, and-comm, and-le-l}
 use lib.Dec.{T, eqb→eq}
 use Rattle.task.specs.Facts.{allOn, without}
 use Rattle.task.specs.Inner.{bit, atInit}
 use Rattle.task.specs.declared.Ends.{Ends}
-use Rattle.task.proofs.Tests.{same}
 use Rattle.task.proofs.Bits.{bit-le, bit-and, bit-or, bit-without, all-on-at, all-on-of}
 use Rattle.task.proofs.Names.{at-init-facts, at-init-of}
 
@@ -54,12 +52,6 @@ next-by-halves =
 
 pub below-next : (u x y : ℕ) → T (allOn x u) → T (allOn y u) → y < x → y ≤ bitAnd (x - 1) u
 below-next u x y h k l = next-by-halves u x y (all-on-and x u h) (all-on-and y u k) l
-
--- ---- every mask over k facts is within the mask of all of them
-
-pub all-within : (k x : ℕ) → x < 2 ^ k → T (allOn x (2 ^ k - 1))
-unfolding allOn
-all-within k x h = same (and-comm (2 ^ k - 1) x ∙ and-mask x k ∙ mod-eq-of-lt h)
 
 -- ---- a mask less one within it
 

@@ -6,7 +6,6 @@ use Prim.Native.Nat.{ℕ, _≤_, _<_, _-_}
 use native.Mathlib.Omega.{arith}
 use lib.ListN.{length}
 use lib.Dec.{T}
-use Rattle.task.specs.declared.Action.{Action}
 use Rattle.task.specs.Inner.{endsOf}
 use Rattle.meaning.specs.File.{File}
 use Rattle.meaning.specs.Sets.{inActions}

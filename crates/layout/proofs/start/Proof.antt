@@ -1,8 +1,5 @@
 -- `layout::start` meets its contract.
 -- Assumes nothing.
-use mathlib.Core.Path.{_≡_}
-use Rattle.meaning.specs.Layout.{items, mask}
-use Rattle.bodies.specs.Faults.{fault}
 use Rattle.layout.proofs.RowLaws.{masks-told}
 use Rattle.layout.proofs.TaskLaws.{start-one, start-bad, start-clash, start-good}
 use borrow.Author.Needs.{needs}

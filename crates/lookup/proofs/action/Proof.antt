@@ -1,7 +1,6 @@
 -- `lookup::action`: past the last action the default, else what stands at its place.
 -- Assumes nothing.
-use mathlib.Core.Path.{_≡_, _∙_}
-use Prim.Native.Nat.{_≤_}
+use mathlib.Core.Path.{_∙_}
 use borrow.Author.Needs.{needs}
 use native.Mathlib.Omega.{arith}
 use Rattle.certificate.specs.Views.{actionsIn}

@@ -1,13 +1,12 @@
 -- `lookup::actions`: the version says where the count stands, and the actions stand behind it.
 -- Assumes nothing.
 use mathlib.Core.Path.{_≡_, ap, _∙_}
-use Prim.Native.Nat.{ℕ, _+_}
+use Prim.Native.Nat.{_+_}
 use native.Mathlib.Omega.{arith}
 use borrow.Author.Needs.{needs}
 use Rattle.bytes.specs.Numbers.{numberAt}
 use Rattle.meaning.specs.Layout.{actionCountAt}
 use Rattle.meaning.proofs.Places.{places}
-use Rattle.certificate.specs.declared.Span.{Span}
 use Rattle.certificate.proofs.KnownLaws.{read-version, read-actions}
 use Rattle.lookup.proofs.actions.Statement.{statement}
 use Rattle.lookup.proofs.actions.Tie as tie
