@@ -1,18 +1,20 @@
 -- One state and one action that make a statement untrue, as the code tests them and as `Countered` puts them.
 -- Assumes nothing.
 use mathlib.Core.Path.{_≡_, refl, ap, subst, sym, _∙_}
-use mathlib.Core.Logic.{_↔_, inl, inr}
+use mathlib.Core.Logic.{_↔_, _⊎_, inl, inr}
 use Prim.Native.Nat.{ℕ, _+_, _-_, _*_, _^_, _≤_, _<_}
 use native.Mathlib.Omega.{arith}
 use native.Mathlib.Decide.{decLt}
 use mathlib.Core.Bool.{Bool, true, false, not, _&&_, _||_}
 use mathlib.Core.List.{List}
 use lib.ListN.{length}
+use lib.Bits.{bitOr}
 use lib.Dec.{T, eqb, eqb→eq}
 use Rattle.task.specs.declared.Action.{Action}
 use Rattle.task.specs.declared.Ends.{Ends}
 use Rattle.task.specs.Task.{applies, after}
 use Rattle.task.specs.Reach.{member}
+use Rattle.task.proofs.Bits.{no-change}
 use Rattle.task.proofs.Tests.{and-left, and-right, and-both, both-ways, or-cases, or-left, or-right, excluded}
 use Rattle.task.proofs.Tests.{holds, is-false, never, same, member-none}
 use Rattle.bytes.specs.Numbers.{numberAt}
@@ -77,35 +79,45 @@ module _ (bytes : List ℕ) (ends : Ends) (a : Action) (left : List ℕ) (m : �
   unfolding showsIn
   shows-rest {t} e p h = rw (p, ← e, h)
 
-  -- where the first right leaf lists the state after the action, nothing is shown
-  shows-closed : (p : Span) → 1 ≤ r → leafIn right 0 .set ≡ Explicit p → leafIn right 0 .after ≡ true
+  -- where the first right leaf is asked about the state after the action, or that is the state before it
+  asked-after : (leafIn right 0 .after ≡ true) ⊎ (bitOr (a .add) (a .del) ≡ 0)
+      → elim (leafIn right 0 .after) [ true ↦ after a s | false ↦ s ] ≡ after a s
+  asked-after (inl f) = rw f refl
+  asked-after (inr z) = by (leafIn right 0 .after)
+    where
+      by : (b : Bool) → elim b [ true ↦ after a s | false ↦ s ] ≡ after a s
+      by true = refl
+      by false = sym (no-change a s z)
+
+  -- and lists that state, nothing is shown
+  shows-closed : (p : Span) → 1 ≤ r → leafIn right 0 .set ≡ Explicit p → (leafIn right 0 .after ≡ true) ⊎ (bitOr (a .add) (a .del) ≡ 0)
       → T (member (after a s) (statesAt bytes (p .at) (p .count))) → showsIn bytes ends a left m right r anchor s ≡ false
   unfolding showsIn holdsOne setHolds
   shows-closed p l k f t =
       third-fails (applies a s) (Lefts (after a s)) (is-false (Rights (after a s)) (λ h.
       let n = all-at r (λ j. not (holdsOne bytes ends s (after a s) (leafIn right j))) h 0 l in
-      never (member (after a s) (statesAt bytes (p .at) (p .count))) t (rw (k, f) at n)))
+      never (member (after a s) (statesAt bytes (p .at) (p .count))) t (rw (k, asked-after f) at n)))
 
 -- the states of the first right leaf are in order, and one that leads to them is not shown
-module _ (bytes : List ℕ) (right : List ℕ) (r : ℕ) (p : Span) where
+module _ (bytes : List ℕ) (right : List ℕ) (r : ℕ) (a : Action) (p : Span) where
   first-ordered : (index : List ℕ) → Readable bytes index right r → 1 ≤ r → leafIn right 0 .set ≡ Explicit p → InOrder bytes index p
   first-ordered index h l k = subst (Orderly bytes index) k (orderly-at bytes index right r h 0 l)
 
-  pub states-ordered : (index : List ℕ) → length bytes ≤ 65536 → Readable bytes index right r → StatesAfter right r p
+  pub states-ordered : (index : List ℕ) → length bytes ≤ 65536 → Readable bytes index right r → StatesAfter right r a p
       → InOrder bytes index p
   states-ordered index short h (inl e) = rw e (none-in-order bytes index short)
   states-ordered index short h (inr (l, k, f)) = first-ordered index h l k
 
-  pub some-ordered : (index : List ℕ) → Readable bytes index right r → StatesAfter right r p → 0 < p .count → InOrder bytes index p
+  pub some-ordered : (index : List ℕ) → Readable bytes index right r → StatesAfter right r a p → 0 < p .count → InOrder bytes index p
   some-ordered index h (inl e) some = absurd (omega (arith, ap (λ (x : Span). x .count) e))
   some-ordered index h (inr (l, k, f)) some = first-ordered index h l k
 
-  pub closed-shows : (ends : Ends) (a : Action) (left : List ℕ) (m anchor s : ℕ) → StatesAfter right r p → Closed bytes p a s
+  pub closed-shows : (ends : Ends) (left : List ℕ) (m anchor s : ℕ) → StatesAfter right r a p → Closed bytes p a s
       → showsIn bytes ends a left m right r anchor s ≡ false
   unfolding statesAt
-  closed-shows ends a left m anchor s w (inl e) = sym (shows-not-applies bytes ends a left m right r anchor s e)
-  closed-shows ends a left m anchor s (inl e) (inr q) = absurd (member-none (after a s) (holds (rw e at q)))
-  closed-shows ends a left m anchor s (inr (l, k, f)) (inr q) = shows-closed bytes ends a left m right r anchor s p l k f (holds q)
+  closed-shows ends left m anchor s w (inl e) = sym (shows-not-applies bytes ends a left m right r anchor s e)
+  closed-shows ends left m anchor s (inl e) (inr q) = absurd (member-none (after a s) (holds (rw e at q)))
+  closed-shows ends left m anchor s (inr (l, k, f)) (inr q) = shows-closed bytes ends a left m right r anchor s p l k f (holds q)
 
 -- ---- what is shown, and what makes the statement untrue
 

@@ -27,10 +27,12 @@ use Rattle.leaves.specs.Lists.{Each}
 abbrev pub Readable : List ℕ → List ℕ → List ℕ → ℕ → Type 0
 Readable bytes index leaves m = (m ≤ length leaves) × Each (λ x. Orderly bytes index (x .set)) (leavesIn leaves m)
 
--- the states of the first of r right leaves, where it lists them and is asked about the state after the action; or none
-abbrev pub StatesAfter : List ℕ → ℕ → Span → Type 0
-StatesAfter right r p =
-    (p ≡ record { at = 0; count = 0 }) ⊎ ((1 ≤ r) × (leafIn right 0 .set ≡ Explicit p) × (leafIn right 0 .after ≡ true))
+-- the states of the first of r right leaves, where it lists them and is asked about the state after the action, or the action changes no
+-- fact; or none
+abbrev pub StatesAfter : List ℕ → ℕ → Action → Span → Type 0
+StatesAfter right r a p =
+    (p ≡ record { at = 0; count = 0 })
+    ⊎ ((1 ≤ r) × (leafIn right 0 .set ≡ Explicit p) × ((leafIn right 0 .after ≡ true) ⊎ (bitOr (a .add) (a .del) ≡ 0)))
 
 -- of listed states, by size, the m-th is the last: those between are the same state
 abbrev pub Different : List ℕ → Span → ℕ → Type 0

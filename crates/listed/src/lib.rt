@@ -113,16 +113,17 @@ fn shows_in(
     none_holds(file, index, ends, right, r, s, t)
 }
 
-// The states of the first right leaf, where it lists them and is asked about the state after the action; else none.
-fn states_after(right: &[u64], r: usize) -> Span
+// The states of the first right leaf, where it lists them and is asked about the state after the action, or that is the state before it;
+// else none.
+fn states_after(right: &[u64], r: usize, a: Action) -> Span
     requires { ⌜ r ≤ length (now right) ⌝ }
-    ensures { λ p. ⌜ StatesAfter (now (right .entry)) r p ⌝ }
+    ensures { λ p. ⌜ StatesAfter (now (right .entry)) r a p ⌝ }
 {
     if r == 0 {
         return Span { at: 0, count: 0 };
     }
     let x = leaf_at(right, 0);
-    if !x.after {
+    if !(x.after | (a.add | a.del == 0)) {
         return Span { at: 0, count: 0 };
     }
     let set = x.set;
@@ -217,7 +218,7 @@ fn one_shows(
     ensures { λ b. ⌜ b ≡ someBelow (x .count) (λ i. showsIn (now (file .entry)) ends a (now (left .entry)) m (now (right .entry)) r anchor (stateIn (now (file .entry)) (now (index .entry)) x i)) ⌝ }
 {
     let rows = by_rows(index);
-    let into = states_after(right, r);
+    let into = states_after(right, r, a);
     let count = different(index, x, rows);
     let mut i = first_open(file, index, x, 0, count, into, rows, a);
     while i < count {
@@ -283,7 +284,7 @@ fn initial_shows(
     ensures { λ b. ⌜ T b ↔ OneInitial ends (showsIn (now (file .entry)) ends a (now (left .entry)) m (now (right .entry)) r anchor) ⌝ }
 {
     let rows = by_rows(index);
-    let into = states_after(right, r);
+    let into = states_after(right, r, a);
     let unknown = ends.unknown;
     let top = ends.init | unknown;
     let mut d = unknown;

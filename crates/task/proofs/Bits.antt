@@ -153,3 +153,9 @@ del-last a s f e d = omega (arith, bit-after a s f)
 -- a fact that is neither added nor deleted is as it was
 pub fact-stays : (a : Action) (s f : ℕ) → bit f (a .del) ≡ 0 → bit f (a .add) ≡ 0 → bit f (after a s) ≡ bit f s
 fact-stays a s f e d = omega (arith, bit-after a s f, bit-le f s)
+
+-- an action that neither adds nor deletes a fact leaves the state as it is
+pub no-change : (a : Action) (s : ℕ) → bitOr (a .add) (a .del) ≡ 0 → after a s ≡ s
+no-change a s z =
+    same-bits (after a s) s (λ f.
+    let e = ap (bit f) z in omega (arith, bit-after a s f, bit-or f (a .add) (a .del), bit-none f, bit-le f s))

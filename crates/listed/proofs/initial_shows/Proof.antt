@@ -39,8 +39,8 @@ loop-holds c =
 first-initial-requires : tie.Need-first-initial-requires Inv-loop μ-loop
 first-initial-requires c κs =
     let v = c .before .before in
-    let p = v .before .before .before .before .before .pre in
-    (v .before .by-rows .ensures, c .loop .inv .1, some-ordered _ _ _ _ _ (p .1) (v .states-after .ensures))
+    let s = v .before .before .before .before .before in
+    (v .before .by-rows .ensures, c .loop .inv .1, some-ordered _ _ _ (s .args .a) _ _ (s .pre .1) (v .states-after .ensures))
 
 sub-shows-in : tie.Need-sub-shows-in Inv-loop μ-loop
 sub-shows-in c = below-top (c .before .before .before .before .before .before .before .before .args .ends) _ (c .first-initial .ensures .0)

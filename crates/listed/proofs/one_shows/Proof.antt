@@ -39,7 +39,7 @@ into-ordered : (c : tie.After-different Inv-loop μ-loop) → let a = c .before 
     InOrder (a .file .now) (a .index .now) (c .before .states-after .result)
 into-ordered c =
     let s = c .before .before .before .before .before .before in
-    states-ordered _ _ _ _ _ (s .pre .1 .short) (s .pre .0 .1) (c .before .states-after .ensures)
+    states-ordered _ _ _ (s .args .a) _ _ (s .pre .1 .short) (s .pre .0 .1) (c .before .states-after .ensures)
 
 -- the test of a turn
 tested : (c : tie.After-shows-in Inv-loop μ-loop) → let v = c .before .before .before in
