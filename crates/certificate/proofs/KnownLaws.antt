@@ -16,7 +16,7 @@ use Rattle.certificate.specs.declared.BasicEntry.the-variants.{Empty}
 use Rattle.certificate.specs.declared.StateEntry.the-variants.{Basic}
 use Rattle.certificate.specs.declared.Judgement.the-variants.{Dead}
 use Rattle.meaning.specs.File.{actionSetAt, stateSetAt, stepAt}
-use Rattle.meaning.specs.Layout.{actionCountAt}
+use Rattle.meaning.specs.Layout.{actionCountAt, actionSize}
 use Rattle.certificate.specs.Views.{placesOf, stateEntryAt, actionEntryAt, viewOf, viewOfBasic, viewOfActions, stepRead}
 use Rattle.certificate.specs.Views.{actionsIn, actionIn}
 use Rattle.certificate.specs.Views.{judgementOf, judgementAt}
@@ -54,13 +54,18 @@ module _ (bytes : List ℕ) (r : IsRead bytes) where
   pub read-version : numberAt 1 bytes 4 ≡ decoded bytes .version
   read-version = version-at bytes (decoded bytes) r
 
-  pub read-actions : (let p : ℕ = actionCountAt (decoded bytes .version) in record { at = p + 2; count = numberAt 2 bytes p })
+  pub read-actions : (let v : ℕ = decoded bytes .version in
+      record { at = actionCountAt v + 2; size = actionSize v; count = numberAt 2 bytes (actionCountAt v) })
       ≡ actionsIn (decoded bytes)
   unfolding actionsIn
-  read-actions = λ i. record { at = actionCountAt (decoded bytes .version) + 2; count = action-count-at bytes (decoded bytes) r i }
+  read-actions = λ i. record {
+    at = actionCountAt (decoded bytes .version) + 2;
+    size = actionSize (decoded bytes .version);
+    count = action-count-at bytes (decoded bytes) r i;
+  }
 
   pub read-action : (i : ℕ) → i < length (decoded bytes .task .actions)
-      → actionIn bytes (actionsIn (decoded bytes) .at + 24 * i) ≡ actionAt (decoded bytes .task) i
+      → actionIn bytes (actionsIn (decoded bytes) .at + actionsIn (decoded bytes) .size * i) ≡ actionAt (decoded bytes .task) i
   read-action i l = action-at bytes (decoded bytes) r i l
 
   pub read-no-action : (i : ℕ) → length (decoded bytes .task .actions) ≤ i

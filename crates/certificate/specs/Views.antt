@@ -9,6 +9,7 @@ use Rattle.task.specs.declared.Action.{Action}
 use Rattle.task.specs.Inner.{endsOf}
 use Rattle.certificate.specs.declared.Places.{Places}
 use Rattle.certificate.specs.declared.Span.{Span}
+use Rattle.certificate.specs.declared.Actions.{Actions}
 use Rattle.certificate.specs.declared.Outline.{Outline}
 use Rattle.certificate.specs.declared.Outline.the-variants.{Refused, Lawful}
 use Rattle.certificate.specs.declared.ActionEntry.{ActionEntry}
@@ -27,7 +28,7 @@ use Rattle.meaning.specs.File as file
 use Rattle.meaning.specs.File.{ActionSet, all, listed, either, empty, init, goal, explicit, horn, twoCnf}
 use Rattle.meaning.specs.File.{StateSet, basic, complement, intersection, union, progression, regression, Step, File, stepAt}
 use Rattle.meaning.specs.declared.Limits.{Limits}
-use Rattle.meaning.specs.Layout.{actionCountAt, afterActions, readWithin}
+use Rattle.meaning.specs.Layout.{actionCountAt, actionSize, afterActions, readWithin}
 use Rattle.bytes.specs.Numbers.{numberAt}
 
 -- the place after the entry at place p
@@ -131,9 +132,9 @@ viewOfActions p (either a b) = Either a b
 
 -- ---- actions and steps
 
--- where the actions of a file that was read stand, and how many there are
-unfoldable pub actionsIn : File → Span
-actionsIn f = record { at = actionCountAt (f .version) + 2; count = length (f .task .actions) }
+-- where the actions of a file that was read stand, how long each is, and how many there are
+unfoldable pub actionsIn : File → Actions
+actionsIn f = record { at = actionCountAt (f .version) + 2; size = actionSize (f .version); count = length (f .task .actions) }
 
 -- the action at place p
 unfoldable pub actionIn : List ℕ → ℕ → Action

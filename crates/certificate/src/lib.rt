@@ -33,6 +33,13 @@ pub struct Span {
     pub count: u16,
 }
 
+// The task's actions: where the first of them stands, how many bytes each has, and how many there are.
+pub struct Actions {
+    pub at: u32,
+    pub size: u8,
+    pub count: u16,
+}
+
 // An action set, kinds 0 to 2.
 pub enum ActionEntry {
     All,

@@ -161,11 +161,11 @@ pub fn step_in(file: &[u8], at: u32) -> Step
     }
 }
 
-// The action with a number, of those that stand at a place and after it.
-pub fn action_at(file: &[u8], at: u32, i: u16) -> Action
-    ensures { λ r. ⌜ r ≡ actionIn (now (file .entry)) (at + 24 * i) ⌝ }
+// The action that stands at a place.
+pub fn action_at(file: &[u8], at: u32) -> Action
+    ensures { λ r. ⌜ r ≡ actionIn (now (file .entry)) at ⌝ }
 {
-    let p = at as usize + 24 * i as usize;
+    let p = at as usize;
     let pre = u64_at(file, p);
     let add = u64_at(file, p + 8);
     let del = u64_at(file, p + 16);

@@ -17,6 +17,7 @@ use meaning::Limits;
 use reader::task_head;
 use task::Ends;
 use versions::action_count_at;
+use versions::action_size;
 use versions::after_actions;
 use versions::goal_at;
 use versions::goal_span;
@@ -204,7 +205,7 @@ fn unknown(file: &[u8], version: u8) -> u64
     }
 }
 
-// The fields from the version up to and with the actions. An action is three masks.
+// The fields from the version up to and with the actions. An action is masks of eight bytes.
 fn task(file: &[u8]) -> Fault
     requires { ⌜ length (now file) ≤ 65536 ⌝ }
     ensures { λ r. ⌜ r ≡ fault (readTask (now (file .entry))) ⌝ }
@@ -229,7 +230,8 @@ fn task(file: &[u8]) -> Fault
     if let Fault::At { number, place } = x {
         return Fault::At { number, place };
     }
-    let actions = walk(file, Row::Masks(head.facts), counted + 2, 3 * head.actions);
+    let masks = (action_size(version) >> 3) as u16 * head.actions;
+    let actions = walk(file, Row::Masks(head.facts), counted + 2, masks);
     actions.fault
 }
 

@@ -3,11 +3,11 @@
 use bytes::byte_at;
 use bytes::u16_at;
 use certificate::ActionEntry;
+use certificate::Actions;
 use certificate::BasicEntry;
 use certificate::Index;
 use certificate::Judgement;
 use certificate::Places;
-use certificate::Span;
 use certificate::StateEntry;
 use certificate::Step;
 use certificate::views::action_at;
@@ -16,6 +16,7 @@ use certificate::views::state_entry;
 use certificate::views::step_in;
 use task::Action;
 use versions::action_count_at;
+use versions::action_size;
 ghost use mathlib.Core.Path.{_≡_};
 ghost use Prim.Native.Nat.{_<_};
 ghost use Rattle.task.specs.Task.{actionAt};
@@ -62,20 +63,22 @@ pub fn action_set(file: &[u8], index: &Index, a: u16) -> ActionEntry
     action_entry(file, place)
 }
 
-// Where the task's actions stand, and how many there are.
-pub fn actions(file: &[u8]) -> Span
+// Where the task's actions stand, how long each is, and how many there are.
+pub fn actions(file: &[u8]) -> Actions
     requires { ⌜ IsRead (now file) ⌝ }
     ensures { λ r. ⌜ r ≡ actionsIn (decoded (now (file .entry))) ⌝ }
 {
-    let at = action_count_at(byte_at(file, 4));
-    Span {
+    let version = byte_at(file, 4);
+    let at = action_count_at(version);
+    Actions {
         at: at + 2,
+        size: action_size(version),
         count: u16_at(file, at as usize),
     }
 }
 
 // The action with a number, of those; one that does nothing where the number names none.
-pub fn action(file: &[u8], all: Span, i: u16) -> Action
+pub fn action(file: &[u8], all: Actions, i: u16) -> Action
     requires { ⌜ IsRead (now file) × (all ≡ actionsIn (decoded (now file))) ⌝ }
     ensures { λ r. ⌜ r ≡ actionAt (decoded (now (file .entry)) .task) i ⌝ }
 {
@@ -86,7 +89,7 @@ pub fn action(file: &[u8], all: Span, i: u16) -> Action
             del: 0,
         };
     }
-    action_at(file, all.at, i)
+    action_at(file, all.at + all.size as u32 * i as u32)
 }
 
 // The step with a number.

@@ -3,7 +3,7 @@ ghost use mathlib.Core.Path.{_≡_};
 ghost use Prim.Native.Nat.{_+_};
 ghost use mathlib.Core.Bool.{not};
 ghost use lib.Dec.{eqb};
-ghost use Rattle.meaning.specs.Layout.{goalAt, actionCountAt, afterActions};
+ghost use Rattle.meaning.specs.Layout.{goalAt, actionCountAt, actionSize, afterActions};
 
 // Whether the unknown facts have a field.
 pub fn has_unknown(version: u8) -> bool
@@ -33,9 +33,16 @@ pub fn action_count_at(version: u8) -> u32
     goal_at(version) + 8
 }
 
+// How many bytes an action has.
+pub fn action_size(version: u8) -> u8
+    ensures { λ r. ⌜ r ≡ actionSize version ⌝ }
+{
+    24
+}
+
 // The place after so many actions.
 pub fn after_actions(version: u8, count: u16) -> u32
     ensures { λ r. ⌜ r ≡ afterActions version count ⌝ }
 {
-    action_count_at(version) + 2 + 24 * count as u32
+    action_count_at(version) + 2 + action_size(version) as u32 * count as u32
 }

@@ -1,7 +1,7 @@
 -- `layout::task` meets its contract: each test passes what is left to read on to the next one.
 -- Assumes nothing.
-use mathlib.Core.Path.{_≡_, ap, _∙_}
-use Prim.Native.Nat.{ℕ, _+_, _*_, _≤_}
+use mathlib.Core.Path.{_≡_, ap, ap₂, _∙_}
+use Prim.Native.Nat.{ℕ, _+_, _*_, _/_, _^_, _≤_}
 use native.Mathlib.Omega.{arith}
 use mathlib.Core.List.{List}
 use lib.ListN.{length}
@@ -86,36 +86,45 @@ returns-3 c = let m = c .before .before .before in goal-refused _ (started (m .b
 returns-4 : tie.Need-returns-4
 returns-4 c = let k = c .before .before .before in count-refused _ (aimed (k .before)) (c .before .x .given .1) (count-said k)
 
-add-walk : tie.Need-add-walk
-add-walk c =
-    let k = c .before .before .before in
-    let o = places (version (k .before .before .before .before .before .before .before .before)) in
-    record { fits = omega (arith, k .action-count-at .ensures) }
+-- an action is three masks
+masks-are : (z : tie.After-action-size)
+    → let h = z .before .before .before .before .before .before .before .before .before .before .before .before in
+    z .action-size .result / 2 ^ 3 * h .task-head .result .actions ≡ 3 * h .task-head .result .actions
+masks-are z =
+    let h = z .before .before .before .before .before .before .before .before .before .before .before .before in
+    ap (λ (k : ℕ). k / 2 ^ 3 * h .task-head .result .actions) (z .action-size .ensures ∙ places (version h) .size)
 
 -- a file with at most 256 actions has at most 768 masks of them
-mul-walk : tie.Need-mul-walk
-mul-walk c =
-    let k = c .before .before .before in
+mul-masks : tie.Need-mul-masks
+mul-masks c =
+    let k = c .before .before .before .before in
     let h = k .before .before .before .before .before .before .before .before .before in
-    let l = count-few (bytes h) 0 256 _ (c .before .enum-told4 .given .1) (count-said k) (actions-are h) in
-    search needs
+    let l = count-few (bytes h) 0 256 _ (c .before .before .enum-told4 .given .1) (count-said k) (actions-are h) in
+    let e = masks-are (c .before) in
+    record { fits = omega arith }
+
+add-walk : tie.Need-add-walk
+add-walk c =
+    let k = c .before .before .before .before .before in
+    let o = places (version (k .before .before .before .before .before .before .before .before)) in
+    record { fits = omega (arith, k .action-count-at .ensures) }
 
 -- they start within the file
 walk-requires-2 : tie.Need-walk-requires-2
 walk-requires-2 c κs =
-    let k = c .before .before .before in
+    let k = c .before .before .before .before in
     let h = k .before .before .before .before .before .before .before .before .before in
-    let l = count-ends (bytes h) 0 256 _ (c .before .enum-told4 .given .1) (count-said k) in
+    let l = count-ends (bytes h) 0 256 _ (c .before .before .enum-told4 .given .1) (count-said k) in
     (rw (k .before .action-count-at .ensures) l, short h)
 
 returns-5 : tie.Need-returns-5
 returns-5 c =
-    let k = c .before .before .before .before in
+    let k = c .before .before .before .before .before in
     let h = k .before .before .before .before .before .before .before .before .before in
-    let m : ℕ = 3 * h .task-head .result .actions in
-    actions-say _ (aimed (k .before)) (c .before .before .enum-told4 .given .1) (count-said k) (actions-are h)
-    (masks-told (bytes h) (facts h) m _ (c .walk2 .ensures)
-    ∙ ap (λ (p : ℕ). fault (items (mask (bytes h) (facts h)) 8 (p + 2) m)) (k .before .action-count-at .ensures))
+    let z = c .before .before in
+    actions-say _ (aimed (k .before)) (z .before .enum-told4 .given .1) (count-said k) (actions-are h)
+    (masks-told (bytes h) (facts h) _ _ (c .walk2 .ensures)
+    ∙ ap₂ (λ (p m : ℕ). fault (items (mask (bytes h) (facts h)) 8 (p + 2) m)) (k .before .action-count-at .ensures) (masks-are z))
 
 pub task-spec : {M : Type 1} → statement M
 task-spec =
@@ -142,7 +151,9 @@ task-spec =
     (λ c. search needs)
     returns-4
     (λ c. search needs)
+    (λ c κs. search needs)
+    (λ c. search needs)
+    mul-masks
     add-walk
-    mul-walk
     walk-requires-2
     returns-5)
