@@ -1,5 +1,6 @@
 //! An earlier build of the proved checker and today's, loaded side by side, so that one run times both. Both have the same
-//! C names, and code that is put elsewhere takes other times: so both come as shared objects (`reference/bench` makes them).
+//! C names, and code that is put elsewhere takes other times: so both come as shared objects, each at several places
+//! (`reference/bench` makes them).
 
 use std::ffi::{c_char, c_int, c_void, CStr, CString};
 
@@ -13,18 +14,24 @@ extern "C" {
 /// Resolve every symbol at once, and show none to other objects.
 const NOW: c_int = 2;
 
-/// The two builds.
+/// The two builds, each at the places where it is timed, one at least.
 pub struct Builds {
-    pub before: Build,
-    pub today: Build,
+    pub before: Vec<Build>,
+    pub today: Vec<Build>,
 }
 
 impl Builds {
-    pub fn load(before: &str, today: &str) -> Result<Builds, String> {
-        let builds = Builds { before: Build::load(before)?, today: Build::load(today)? };
-        match builds.today.check_numbered {
-            Some(_) => Ok(builds),
-            None => Err(format!("{today}: no certificate_check_numbered")),
+    pub fn load(before: &[&str], today: &[&str]) -> Result<Builds, String> {
+        let all = |paths: &[&str]| {
+            paths.iter().map(|path| Build::load(path)).collect::<Result<Vec<Build>, String>>()
+        };
+        let builds = Builds { before: all(before)?, today: all(today)? };
+        if builds.before.is_empty() || builds.today.is_empty() {
+            return Err("no shared objects".to_string());
+        }
+        match builds.today.iter().position(|build| build.check_numbered.is_none()) {
+            None => Ok(builds),
+            Some(at) => Err(format!("{}: no certificate_check_numbered", today[at])),
         }
     }
 }

@@ -94,8 +94,8 @@ fn spread(pair: &Pair) -> String {
 
 fn times_row(file: &Timed, pace: Pace, builds: Option<&Builds>) -> Result<String, String> {
     let reply = agreement::reply(file)?;
-    if let Some(builds) = builds {
-        agreement::same(file, &builds.before)?;
+    for build in builds.iter().flat_map(|builds| builds.before.iter().chain(&builds.today)) {
+        agreement::same(file, build)?;
     }
     let times = compare(pace, file, builds);
     let both = &times.reference;

@@ -5,7 +5,7 @@
 use std::hint::black_box;
 use std::time::{Duration, Instant};
 
-use crate::earlier::Builds;
+use crate::earlier::{Build, Builds};
 use crate::files::Timed;
 
 /// How long to measure.
@@ -75,20 +75,26 @@ impl Times {
 }
 
 /// Times the checkers on a file; where there are two builds of the proved one, today's as it is loaded beside the other,
-/// and the other where it can be called.
+/// and the other where it can be called, each by the mean of its places.
 pub fn compare(pace: Pace, file: &Timed, builds: Option<&Builds>) -> Times {
     let time = |who: usize| match (who, builds) {
         (0, None) => best(pace.least, || black_box(file).proved()),
-        (0, Some(builds)) => best(pace.least, || builds.today.check(black_box(file))),
+        (0, Some(builds)) => mean(pace.least, &builds.today, file),
         (1, _) => best(pace.least, || black_box(file).reference()),
-        (_, Some(builds)) => best(pace.least, || builds.before.check(black_box(file))),
+        (_, Some(builds)) => mean(pace.least, &builds.before, file),
         (_, None) => f64::NAN,
     };
-    let earlier = builds.and_then(|builds| builds.before.check(file));
+    let earlier = builds.and_then(|builds| builds.before[0].check(file));
     let rounds = in_turns(pace, 2 + earlier.iter().count(), time);
     let round =
         |times: &Vec<f64>| Round { proved: times[0], reference: times[1], earlier: times.get(2).copied() };
     Times::of(&rounds.iter().map(round).collect::<Vec<Round>>())
+}
+
+/// The mean of what a build takes for a file at its places, of which there is one at least.
+fn mean(least: Duration, places: &[Build], file: &Timed) -> f64 {
+    let times = places.iter().map(|build| best(least, || build.check(black_box(file))));
+    times.sum::<f64>() / places.len() as f64
 }
 
 /// What the same steps take with a list and without one: of the proved checker and of the reference.

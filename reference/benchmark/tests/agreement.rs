@@ -143,24 +143,30 @@ fn an_earlier_build_is_loaded_beside_this_one() {
     let today = object("today", &["-Wl,--whole-archive", library, "-Wl,--no-whole-archive"]);
     let [early, first, refusing] = [("early", "0"), ("first", "2l << 32 | 4"), ("refusing", "7l << 32 | 99")]
         .map(|(n, c)| stand_in(n, c));
-    let builds = Builds::load(&today, &today).unwrap_or_else(|message| panic!("{message}"));
+    let builds = Builds::load(&[&today], &[&today]).unwrap_or_else(|message| panic!("{message}"));
     let [plain, listed] = without_and_with_list();
     for file in [&deepest(), &plain, &listed] {
-        assert_eq!(builds.today.check(file), Some(file.proved()));
-        assert_eq!(agreement::same(file, &builds.before), Ok(()));
+        assert_eq!(builds.today[0].check(file), Some(file.proved()));
+        assert_eq!(agreement::same(file, &builds.before[0]), Ok(()));
     }
-    let mixed = Builds::load(&early, &today).unwrap_or_else(|message| panic!("{message}"));
-    assert_eq!((mixed.before.check(&plain), mixed.before.check(&listed)), (Some(0), None));
-    assert_eq!([&plain, &listed].map(|file| agreement::same(file, &mixed.before)), [Ok(()), Ok(())]);
+    let mixed = Builds::load(&[&early], &[&today, &today]).unwrap_or_else(|message| panic!("{message}"));
+    assert_eq!((mixed.before[0].check(&plain), mixed.before[0].check(&listed)), (Some(0), None));
+    assert_eq!([&plain, &listed].map(|file| agreement::same(file, &mixed.before[0])), [Ok(()), Ok(())]);
     let timed = [&plain, &listed].map(|file| compare(Pace::QUICK, file, Some(&mixed)).earlier.is_some());
     assert_eq!(timed, [true, false]);
-    assert!(agreement::same(&deepest(), &mixed.before).is_err());
+    assert!(agreement::same(&deepest(), &mixed.before[0]).is_err());
     // One that says 2 or 7 is not timed.
     for object in [&first, &refusing] {
         let build = Build::load(object).unwrap_or_else(|message| panic!("{message}"));
         assert_eq!((build.check(&plain), agreement::same(&plain, &build)), (None, Ok(())));
     }
-    assert!(Builds::load(&early, &early).is_err() && Builds::load(&today, "/no/such/object.so").is_err());
+    let refused: [(&[&str], &[&str]); 4] = [
+        (&[&early], &[&early]),
+        (&[&today], &["/no/such/object.so"]),
+        (&[&today], &[&today, &early]),
+        (&[], &[]),
+    ];
+    assert!(refused.iter().all(|(before, today)| Builds::load(before, today).is_err()));
     assert!(Build::load("/no/such/object.so").is_err());
     for path in [today, early, first, refusing] {
         std::fs::remove_file(path).expect("a file of this test");
