@@ -91,8 +91,9 @@ pub fn compare(pace: Pace, file: &Timed, builds: Option<&Builds>) -> Times {
     Times::of(&rounds.iter().map(round).collect::<Vec<Round>>())
 }
 
-/// The mean of what a build takes for a file at its places, of which there is one at least.
+/// The mean of what a build takes for a file at its places, of which there is one at least; they share the time.
 fn mean(least: Duration, places: &[Build], file: &Timed) -> f64 {
+    let least = least / places.len() as u32;
     let times = places.iter().map(|build| best(least, || build.check(black_box(file))));
     times.sum::<f64>() / places.len() as f64
 }
