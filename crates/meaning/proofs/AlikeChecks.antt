@@ -4,7 +4,7 @@
 use mathlib.Core.Path.{_≡_, refl, ap, _∙_}
 use Prim.Native.Nat.{ℕ}
 use mathlib.Core.List.{List, map}
-use Rattle.meaning.specs.File.{StateSet, Step, File, stepAt}
+use Rattle.meaning.specs.File.{StateSet, File, stepAt}
 use Rattle.meaning.specs.Sets.{inSet}
 use Rattle.meaning.specs.Reply.{checkSteps, checkFrom, checkFile}
 use Rattle.meaning.specs.Numbering.{withRule, rewritten}
@@ -31,9 +31,6 @@ by-sets said h f g a =
 steps-same : (v : ℕ) (g : File) (xs : List StateSet) → AlikeSets xs (g .stateSets) → checkSteps (varied v g xs (g .steps)) ≡ checkSteps g
 unfolding stepAt
 steps-same v g xs h = ext₂ (steps-checked v g xs (g .steps) h (λ k. refl))
-
-pub alike-steps : (f g : File) → Alike f g → (i : ℕ) (ks : List Step) → checkSteps f i ks ≡ checkSteps g i ks
-alike-steps f g a i ks = by-sets (λ x. checkSteps x i ks) (λ v g xs h. rw (steps-same v g xs h)) f g a
 
 pub alike-from : (f g : File) → Alike f g → (from : ℕ) → checkFrom f from ≡ checkFrom g from
 unfolding checkFrom stepAt

@@ -12,7 +12,7 @@ use lib.Seq.{getD-take, getD-drop, ext-getD}
 use lib.Dec.{leb, eqb, leb→le, nleb→lt}
 use Rattle.task.proofs.Tests.{excluded}
 use Rattle.meaning.specs.Bytes.{bigEndian, number}
-use Rattle.meaning.specs.Structure.{afterEntries, actionSetCount, stateSetCount, stepCount, listedAt, setAt}
+use Rattle.meaning.specs.Structure.{afterEntries, actionSetCount, stateSetCount, listedAt, setAt}
 use Rattle.meaning.specs.Relisted.{InState, Relisted}
 use Rattle.meaning.specs.Layout.{actionCountAt, afterActions}
 use Rattle.meaning.proofs.Places.{behind-count, behind-actions}
@@ -153,10 +153,6 @@ module _ {a b : List ℕ} (r : Relisted a b) where
       after-same (A + 2) k (λ j h p _ u. let m = action-set-ends a j h in free-before a p (omega arith) (omega arith))
       ∙ ap (λ (i : ℕ). afterEntries b (A + 2) i) n ∙ ap (λ (q : ℕ). afterEntries b (q + 2) (number 2 b q)) action-count-same
 
-  pub set-count-same : setCount a ≡ setCount b
-  set-count-same =
-      number-same 2 (stateSetCount a) (λ p _ u. free-before a p (omega arith) (omega arith)) ∙ ap (number 2 b) set-count-place-same
-
   pub set-same : (e : ℕ) → setAt a e ≡ setAt b e
   unfolding setAt
   set-same e =
@@ -170,7 +166,3 @@ module _ {a b : List ℕ} (r : Relisted a b) where
       ap (λ (n : ℕ). statesOf (number 1 a (p + 2)) (n - 1)) (number-same 2 p (λ q l u. free-head a e q l (omega arith)))
       ∙ ap (λ (k : ℕ). statesOf k (number 2 b p - 1)) (number-same 1 (p + 2) (λ q l u. free-head a e q (omega arith) (omega arith)))
       ∙ ap (listedAt b) (set-same e)
-
-  pub step-count-same : stepCount a ≡ stepCount b
-  unfolding stepCount setAt
-  step-count-same = set-same (setCount a) ∙ ap (setAt b) set-count-same

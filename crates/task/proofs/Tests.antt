@@ -88,10 +88,6 @@ pub member-cases : (x y : ℕ) (ys : List ℕ) → T (member x (y ∷ ys)) → (
 unfolding member
 member-cases x y ys m = elim (or-cases (eqb x y) (member x ys) m) [ inl e ↦ inl (eqb→eq x y e) | inr k ↦ inr k ]
 
--- the rest may change to a list that holds it too
-pub member-under : (x y : ℕ) (xs ys : List ℕ) → (T (member x xs) → T (member x ys)) → T (member x (y ∷ xs)) → T (member x (y ∷ ys))
-member-under x y xs ys h m = elim (member-cases x y xs m) [ inl e ↦ member-first x y ys e | inr k ↦ member-rest x y ys (h k) ]
-
 -- ---- each element passes the test
 
 pub every-at : (t : ℕ → Bool) (xs : List ℕ) (x : ℕ) → T (every t xs) → T (member x xs) → T (t x)
