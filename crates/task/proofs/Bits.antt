@@ -1,6 +1,7 @@
 -- Masks fact by fact: what the operations on masks do to each fact, and masks with the same facts are one number.
 -- Assumes nothing.
 use Prim.Native.Nat.{ℕ, zero, suc, _+_, _-_, _*_, _/_, _%_, _^_, _≤_, _<_, min, max}
+use mathlib.Core.Bool.{Bool, _&&_}
 use mathlib.Core.Path.{_≡_, refl, sym, ap, ap₂, _∙_}
 use native.Mathlib.Omega.{arith}
 use native.Mathlib.Decide.{decLt}
@@ -9,12 +10,12 @@ use lib.Arith.{bin-ind, lt-one}
 use lib.Pow.{pow-mono}
 use lib.Bits.{bitAnd, bitOr, and-step, or-step, and-shr, or-shr, or-lt, and-le-l}
 use lib.Count.{ones, ones-step}
-use lib.Dec.{T, eqb→eq}
-use Rattle.task.specs.Facts.{allOn, without, onesIn}
+use lib.Dec.{T, eqb, eqb→eq}
+use Rattle.task.specs.Facts.{allOn, allOff, without, onesIn}
 use Rattle.task.specs.Task.{after}
 use Rattle.task.specs.Inner.{bit}
 use Rattle.task.specs.declared.Action.{Action}
-use Rattle.task.proofs.Tests.{same}
+use Rattle.task.proofs.Tests.{and-left, and-right, and-both, both-ways, same}
 
 pub bit-le : (f m : ℕ) → bit f m ≤ 1
 unfolding bit
@@ -126,6 +127,53 @@ all-on-at m s t f = omega (arith, bit-and f s m, ap (bit f) (eqb→eq (bitAnd s 
 pub all-on-of : (m s : ℕ) → ((f : ℕ) → bit f m ≤ bit f s) → T (allOn m s)
 unfolding allOn
 all-on-of m s h = same (same-bits (bitAnd s m) m (λ f. bit-and f s m ∙ min-eq-right (h f)))
+
+-- ---- every fact of `on` is on in s, and every fact of `off` is off
+
+-- fact f is so
+abbrev pub AsTold : ℕ → ℕ → ℕ → ℕ → Type 0
+AsTold on off s f = (bit f on ≤ bit f s) × (bit f off + bit f s ≤ 1)
+
+all-off-at : (m s : ℕ) → T (allOff m s) → (f : ℕ) → bit f m + bit f s ≤ 1
+unfolding allOff
+all-off-at m s t f =
+    let e = ap (bit f) (eqb→eq (bitAnd s m) 0 t) in omega (arith, bit-and f s m, bit-none f, bit-le f m, bit-le f s)
+
+all-off-of : (m s : ℕ) → ((f : ℕ) → bit f m + bit f s ≤ 1) → T (allOff m s)
+unfolding allOff
+all-off-of m s h = same (no-bits (bitAnd s m) (λ f. omega (arith, bit-and f s m, h f)))
+
+module _ (on off s : ℕ) where
+  pub told-facts : T (allOn on s && allOff off s) → (f : ℕ) → AsTold on off s f
+  told-facts t f =
+      (all-on-at on s (and-left (allOn on s) (allOff off s) t) f, all-off-at off s (and-right (allOn on s) (allOff off s) t) f)
+
+  pub told-of : ((f : ℕ) → AsTold on off s f) → T (allOn on s && allOff off s)
+  told-of h = and-both (allOn on s) (allOff off s) (all-on-of on s (λ f. h f .0)) (all-off-of off s (λ f. h f .1))
+
+  -- no state is so where a fact is in both
+  pub told-never : 0 < bitAnd on off → T (allOn on s && allOff off s) → ⊥
+  told-never l t =
+      let w = some-bit (bitAnd on off) l in
+      let k = told-facts t (w .0) in
+      omega (arith, w .1, bit-and (w .0) on off, k .0, k .1, bit-le (w .0) on, bit-le (w .0) off)
+
+  -- where none is, one look at the facts of both tells
+  pub told-at-once : bitAnd on off ≡ 0 → eqb (bitAnd s (bitOr on off)) on ≡ (allOn on s && allOff off s)
+  told-at-once z =
+      both-ways _ _ (λ t. told-of (λ f. to f (ap (bit f) (eqb→eq _ on t)))) (λ t. same (same-bits _ on (λ f. from f (told-facts t f))))
+    where
+      apart : (f : ℕ) → min (bit f on) (bit f off) ≡ 0
+      apart f = sym (bit-and f on off) ∙ ap (bit f) z ∙ bit-none f
+
+      seen : (f : ℕ) → bit f (bitAnd s (bitOr on off)) ≡ min (bit f s) (max (bit f on) (bit f off))
+      seen f = bit-and f s (bitOr on off) ∙ ap (min (bit f s)) (bit-or f on off)
+
+      to : (f : ℕ) → bit f (bitAnd s (bitOr on off)) ≡ bit f on → AsTold on off s f
+      to f e = (omega (arith, seen f, e, bit-le f off), omega (arith, seen f, e, apart f, bit-le f off, bit-le f s))
+
+      from : (f : ℕ) → AsTold on off s f → bit f (bitAnd s (bitOr on off)) ≡ bit f on
+      from f k = omega (arith, seen f, k .0, k .1, apart f, bit-le f s, bit-le f on, bit-le f off)
 
 -- ---- the state after an action
 

@@ -4,7 +4,7 @@ use mathlib.Core.Path.{_≡_, refl, ap, ap₂}
 use Prim.Native.Nat.{ℕ, _-_, _^_, _≤_, _<_}
 use native.Mathlib.Omega.{arith}
 use native.Mathlib.Decide.{decLt}
-use lib.Bits.{bitAnd}
+use lib.Bits.{bitAnd, bitOr}
 use lib.Count.{ones}
 use lib.Dec.{T, leb, eqb, eqb→eq}
 use Rattle.task.specs.Facts.{without, onesIn}
@@ -13,7 +13,7 @@ use Rattle.task.specs.Inner.{bit, noAction, endsOf, atInit, fewUnknown, 
 use Rattle.task.specs.declared.Action.{Action}
 use Rattle.task.specs.declared.Ends.{Ends}
 use Rattle.task.proofs.Tests.{same}
-use Rattle.task.proofs.Bits.{bit-le, bit-none, same-bits, bit-without, without-and, ones-are, all-on-at, all-on-of}
+use Rattle.task.proofs.Bits.{bit-le, bit-none, same-bits, bit-without, without-and, ones-are, AsTold, told-facts, told-of, told-never, told-at-once}
 
 -- ---- the ends
 
@@ -57,26 +57,47 @@ module _ (e : Ends) (s : ℕ) where
       ]))
 
   -- the goal's states
-  pub at-goal-facts : T (atGoal e s) → (f : ℕ) → bit f (e .goal) ≤ bit f s
+  pub at-goal-facts : T (atGoal e s) → (f : ℕ) → AsTold (e .goal) (e .off) s f
   unfolding atGoal
-  at-goal-facts h = all-on-at (e .goal) s h
+  at-goal-facts h = told-facts (e .goal) (e .off) s h
 
-  pub at-goal-of : ((f : ℕ) → bit f (e .goal) ≤ bit f s) → T (atGoal e s)
+  pub at-goal-of : ((f : ℕ) → AsTold (e .goal) (e .off) s f) → T (atGoal e s)
   unfolding atGoal
-  at-goal-of h = all-on-of (e .goal) s h
+  at-goal-of h = told-of (e .goal) (e .off) s h
 
 -- ---- actions
 
 module _ (a : Action) (s : ℕ) where
-  pub applies-facts : T (applies a s) → (f : ℕ) → bit f (a .pre) ≤ bit f s
+  pub applies-facts : T (applies a s) → (f : ℕ) → AsTold (a .pre) (a .off) s f
   unfolding applies
-  applies-facts h = all-on-at (a .pre) s h
+  applies-facts h = told-facts (a .pre) (a .off) s h
 
-  pub applies-of : ((f : ℕ) → bit f (a .pre) ≤ bit f s) → T (applies a s)
+  pub applies-of : ((f : ℕ) → AsTold (a .pre) (a .off) s f) → T (applies a s)
   unfolding applies
-  applies-of h = all-on-of (a .pre) s h
+  applies-of h = told-of (a .pre) (a .off) s h
+
+  -- one that needs a fact on and off applies nowhere; of another one look at all it needs tells
+  pub applies-never : 0 < bitAnd (a .pre) (a .off) → T (applies a s) → ⊥
+  unfolding applies
+  applies-never l h = told-never (a .pre) (a .off) s l h
+
+  pub applies-at-once : bitAnd (a .pre) (a .off) ≡ 0 → eqb (bitAnd s (bitOr (a .pre) (a .off))) (a .pre) ≡ applies a s
+  unfolding applies
+  applies-at-once z = told-at-once (a .pre) (a .off) s z
+
+-- ---- a goal with a fact in both masks has no state, and one without a fact has every state
+
+pub goal-never : (t : Task) (s : ℕ) → 0 < bitAnd (t .goal) (t .off) → T (isGoal t s) → ⊥
+unfolding isGoal
+goal-never t s l h = told-never (t .goal) (t .off) s l h
+
+pub goal-everywhere : (t : Task) (s : ℕ) → t .goal ≡ 0 → t .off ≡ 0 → T (isGoal t s)
+unfolding isGoal
+goal-everywhere t s z w =
+    told-of (t .goal) (t .off) s (λ f.
+    (omega (arith, ap (bit f) z, bit-none f), omega (arith, ap (bit f) w, bit-none f, bit-le f s)))
 
 -- the action that does nothing
 pub nothing-applies : (s : ℕ) → T (applies noAction s)
 unfolding noAction
-nothing-applies s = applies-of noAction s (λ f. let z = bit-none f in omega arith)
+nothing-applies s = applies-of noAction s (λ f. (omega (arith, bit-none f), omega (arith, bit-none f, bit-le f s)))

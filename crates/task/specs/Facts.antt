@@ -9,6 +9,10 @@ use lib.Bits.{bitAnd}
 unfoldable pub allOn : ℕ → ℕ → Bool
 allOn m s = eqb (bitAnd s m) m
 
+-- every fact of the mask m is off in s
+unfoldable pub allOff : ℕ → ℕ → Bool
+allOff m s = eqb (bitAnd s m) 0
+
 -- s without the facts of m
 unfoldable pub without : ℕ → ℕ → ℕ
 without s m = s - bitAnd s m

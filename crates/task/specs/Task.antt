@@ -1,12 +1,12 @@
 -- The planning task, and what an action does to a state. Document 01 calls the task a table.
 -- Assumes nothing.
 use Prim.Native.Nat.{ℕ}
-use mathlib.Core.Bool.{Bool, true, false}
+use mathlib.Core.Bool.{Bool, true, false, _&&_}
 use mathlib.Core.List.{List, [], _∷_}
 use lib.ListN.{getD}
 use lib.Dec.{eqb}
 use lib.Bits.{bitOr}
-use Rattle.task.specs.Facts.{allOn, without}
+use Rattle.task.specs.Facts.{allOn, allOff, without}
 use Rattle.task.specs.declared.Action.{Action}
 
 pub record Task : Type 0 where
@@ -17,23 +17,25 @@ pub record Task : Type 0 where
   pub unknown : ℕ
   -- document 01: the forbidden mask
   pub goal : ℕ
+  -- document 02, j: the forbidden-off mask
+  pub off : ℕ
   pub actions : List Action
 
 -- the action with a number; the other value stands where the number names none
 unfoldable pub actionAt : Task → ℕ → Action
-actionAt t i = getD (t .actions) i (record { pre = 0; add = 0; del = 0 })
+actionAt t i = getD (t .actions) i (record { pre = 0; add = 0; del = 0; off = 0 })
 
 -- the state agrees with the start on the facts that are known there
 unfoldable pub isInit : Task → ℕ → Bool
 isInit t s = eqb (without s (t .unknown)) (without (t .init) (t .unknown))
 
--- forbidden: every fact of the mask is on
+-- forbidden: both masks are met, every fact of the one is on and every fact of the other is off
 unfoldable pub isGoal : Task → ℕ → Bool
-isGoal t s = allOn (t .goal) s
+isGoal t s = allOn (t .goal) s && allOff (t .off) s
 
--- all its needs are on
+-- all its needs are on, and what it needs off is off
 unfoldable pub applies : Action → ℕ → Bool
-applies a s = allOn (a .pre) s
+applies a s = allOn (a .pre) s && allOff (a .off) s
 
 -- the state without what is cleared, joined with what is set: a fact in both ends on
 unfoldable pub after : Action → ℕ → ℕ

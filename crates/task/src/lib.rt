@@ -1,25 +1,29 @@
 // The planning task: states as masks of facts, actions, and the move of one action. Nothing here knows of files.
 ghost use mathlib.Core.Path.{_≡_};
 ghost use Prim.Native.Nat.{_-_, _^_, min};
-ghost use Rattle.task.specs.Facts.{allOn};
+ghost use mathlib.Core.Bool.{_&&_};
+ghost use Rattle.task.specs.Facts.{allOn, allOff};
 ghost use Rattle.task.specs.Task.{applies, after};
 ghost use Rattle.task.specs.Inner.{atInit, fewUnknown, atGoal};
 
-// An action: the facts it needs, those it adds and those it deletes.
-// Document 01 calls it an event, with needs, sets and clears.
+// An action: the facts it needs on, those it adds, those it deletes, and those it needs off.
+// Document 01 calls it an event, with needs, sets and clears, and document 02 adds needs-off.
 pub struct Action {
     pub pre: u64,
     pub add: u64,
     pub del: u64,
+    pub off: u64,
 }
 
-// The task's ends: over so many facts, an initial state, the facts that may be on or off there, and the goal's mask.
-// Document 01 calls them the start and the forbidden mask, with document 02's unknown mask between them.
+// The task's ends: over so many facts, an initial state, the facts that may be on or off there, and the goal's masks: facts that are on
+// in a goal state, and facts that are off. Document 01 calls them the start and the forbidden mask; the unknown mask between them and the
+// forbidden-off mask are document 02's.
 pub struct Ends {
     pub facts: u8,
     pub init: u64,
     pub unknown: u64,
     pub goal: u64,
+    pub off: u64,
 }
 
 // Whether every fact of a mask is on in a state.
@@ -27,6 +31,13 @@ pub fn all_on(mask: u64, state: u64) -> bool
     ensures { λ r. ⌜ r ≡ allOn mask state ⌝ }
 {
     state & mask == mask
+}
+
+// Whether every fact of the one mask is on in a state, and every fact of the other off.
+fn is_as_told(on: u64, off: u64, state: u64) -> bool
+    ensures { λ r. ⌜ r ≡ (allOn on state && allOff off state) ⌝ }
+{
+    all_on(on, state) & (state & off == 0)
 }
 
 // Whether a state is an initial one: it agrees with the one that is named on all known facts.
@@ -47,7 +58,7 @@ pub fn few_unknown(ends: Ends) -> bool
 pub fn is_goal(ends: Ends, state: u64) -> bool
     ensures { λ r. ⌜ r ≡ atGoal ends state ⌝ }
 {
-    all_on(ends.goal, state)
+    is_as_told(ends.goal, ends.off, state)
 }
 
 // The mask of the first n facts, all 64 of them where n is 64 or above.
@@ -61,11 +72,11 @@ pub fn all_facts(n: u8) -> u64
     }
 }
 
-// Whether an action may happen in a state.
+// Whether an action may happen in a state: what it needs on is on there, and what it needs off is off.
 pub fn applies(a: Action, state: u64) -> bool
     ensures { λ r. ⌜ r ≡ applies a state ⌝ }
 {
-    all_on(a.pre, state)
+    is_as_told(a.pre, a.off, state)
 }
 
 // The state after an action: what it deletes goes first, so that a fact it also adds ends on.
