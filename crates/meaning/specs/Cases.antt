@@ -1,9 +1,9 @@
--- The sample file and the twelve proved cases of document 01, each a change of the sample; and files with unknown facts.
+-- The sample file and the twelve proved cases of document 01, each a change of the sample; files with unknown facts, and with facts needed off.
 -- Assumes nothing.
 use Prim.Native.Nat.{ℕ, _/_, _%_}
 use mathlib.Core.List.{List, [], _∷_, _++_}
 use lib.ListN.{length}
-use Rattle.meaning.specs.File.{all, empty, init, explicit, basic, complement, intersection, union, progression, File}
+use Rattle.meaning.specs.File.{all, empty, init, goal, explicit, basic, complement, intersection, union, progression, regression, File}
 use Rattle.meaning.specs.declared.Reply.{Reply}
 use Rattle.meaning.specs.declared.Reply.the-variants.{Accepted, Refused}
 
@@ -87,9 +87,48 @@ unknownBytes start unknown forbidden =
 unfoldable pub leaveFile : ℕ → File
 leaveFile unknown = record {
   version = 2;
-  task = record { facts = 13; init = 0; unknown = unknown; goal = 0; actions = [] };
+  task = record { facts = 13; init = 0; unknown = unknown; goal = 0; off = 0; actions = [] };
   actionSets = all ∷ [];
   stateSets =
       basic empty ∷ basic init ∷ basic (explicit []) ∷ intersection 1 2 ∷ progression 1 0 ∷ complement 0 ∷ union 2 5 ∷ [];
+  steps = [];
+}
+
+-- ---- document 02, j
+
+-- the sample as version 3, with the two forbidden masks as given; its events clear nothing, and what they need off is given: the first
+-- sets fact 0, the second fact 1. Set 3 and the steps as given
+unfoldable pub offTable : ℕ → ℕ → ℕ → ℕ → ℕ → ℕ → List ℕ
+offTable start unknown forbidden off first second =
+    3 ∷ 2 ∷ word start ++ word unknown ++ word forbidden ++ word off
+    ++ 0 ∷ 2 ∷ word 0 ++ word 1 ++ word 0 ++ word first ++ word 0 ++ word 2 ++ word 0 ++ word second
+
+unfoldable pub offBytes : List ℕ → List ℕ → List ℕ → List ℕ
+offBytes table three steps = withLength (table ++ 0 ∷ 1 ∷ 0 ∷ 1 ∷ 0 ∷ setBytes three 3 0 ++ steps)
+
+-- kind 2 is dead, since it is within the empty set
+unfoldable pub goalSteps : List ℕ
+goalSteps =
+    0 ∷ 4 ∷ stepBytes 6 0 0 0 0 0 0  -- 0 ED 0
+    ++ stepBytes 1 1 2 0 0 0 0  -- 1 B1 2<0
+    ++ stepBytes 8 0 2 0 1 0 0  -- 2 SD 2 (1, 0)
+    ++ stepBytes 14 3 0 0 2 0 0  -- 3 CG (2)
+
+-- a file over 1 fact that is forbidden both on and off, with an action that adds it where it is off, and the sets 0 empty, 1 forbidden,
+-- 2 explicit with the fact on, 3 = 1+1, 4 = 3+1, 5 = 0+0, 6 = 5+0, 7 = [0]2
+unfoldable pub offFile : File
+offFile = record {
+  version = 3;
+  task = record {
+    facts = 1;
+    init = 0;
+    unknown = 0;
+    goal = 1;
+    off = 1;
+    actions = record { pre = 0; add = 1; del = 0; off = 1 } ∷ [];
+  };
+  actionSets = all ∷ [];
+  stateSets =
+      basic empty ∷ basic goal ∷ basic (explicit (1 ∷ [])) ∷ union 1 1 ∷ union 3 1 ∷ union 0 0 ∷ union 5 0 ∷ regression 2 0 ∷ [];
   steps = [];
 }

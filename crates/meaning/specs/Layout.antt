@@ -52,13 +52,17 @@ ascending read size low p (suc k) = do
 unfoldable pub goalAt : ℕ → ℕ
 goalAt v = elim (eqb v 1) [ true ↦ 14 | false ↦ 22 ]
 
--- the count of the actions, behind it
+-- how many bytes a mask of facts that are off takes: version 3 has such masks, versions 1 and 2 do not
+unfoldable pub offSize : ℕ → ℕ
+offSize v = elim (eqb v 3) [ true ↦ 8 | false ↦ 0 ]
+
+-- the count of the actions, behind the goal's masks
 unfoldable pub actionCountAt : ℕ → ℕ
-actionCountAt v = goalAt v + 8
+actionCountAt v = goalAt v + 8 + offSize v
 
 -- how long an action is
 unfoldable pub actionSize : ℕ → ℕ
-actionSize v = 24
+actionSize v = 24 + offSize v
 
 -- the place after m actions
 unfoldable pub afterActions : ℕ → ℕ → ℕ
@@ -94,12 +98,18 @@ module _ (bytes : List ℕ) where
     _ ← need (ltb r bound) 6 p
     found r
 
-  unfoldable pub action : ℕ → ℕ → Result Action
-  action n p = do
+  -- a mask of facts that are off; in versions 1 and 2 there are none
+  unfoldable pub offMask : ℕ → ℕ → ℕ → Result ℕ
+  offMask v n p = elim (eqb v 3) [ true ↦ mask n p | false ↦ found 0 ]
+
+  -- document 01: needs, sets, clears; document 02, j: needs-off
+  unfoldable pub action : ℕ → ℕ → ℕ → Result Action
+  action v n p = do
     a ← mask n p
     b ← mask n (p + 8)
     c ← mask n (p + 16)
-    found (record { pre = a; add = b; del = c })
+    d ← offMask v n (p + 24)
+    found (record { pre = a; add = b; del = c; off = d })
 
   -- a clause whose masks pass the kind's rule
   unfoldable pub clause : ℕ → (ℕ → ℕ → Bool) → ℕ → Result Clause
@@ -239,15 +249,16 @@ module _ (bytes : List ℕ) where
   unfoldable pub readTask : Result (Task × ℕ)
   readTask = do
     v ← field bytes 1 4
-    _ ← need (eqb v 1 || eqb v 2) 2 4
+    _ ← need (leb 1 v && leb v 3) 2 4
     n ← field bytes 1 5
     _ ← need (leb 1 n && leb n 64) 4 5
     s ← mask bytes n 6
     u ← unknownMask v n s
     g ← mask bytes n (goalAt v)
+    o ← offMask bytes v n (goalAt v + 8)
     m ← count bytes 0 256 (actionCountAt v)
-    acts ← items (action bytes n) (actionSize v) (actionCountAt v + 2) m
-    found (record { facts = n; init = s; unknown = u; goal = g; actions = acts }, afterActions v m)
+    acts ← items (action bytes v n) (actionSize v) (actionCountAt v + 2) m
+    found (record { facts = n; init = s; unknown = u; goal = g; off = o; actions = acts }, afterActions v m)
 
 -- ---- the file
 

@@ -7,9 +7,11 @@ use mathlib.Core.Option.{none, some}
 use Prim.Native.Nat.{ℕ, zero, suc, _+_, _-_, _*_, _≤_, _<_}
 use mathlib.Core.List.{List, [], _∷_, _++_, map}
 use lib.ListN.{length, take, drop, replicate, getElem?}
+use lib.Bits.{bitAnd}
 use lib.Dec.{T, leb, eqb}
-use Rattle.task.specs.Facts.{onesIn}
-use Rattle.task.specs.Task.{Task, isInit}
+use Rattle.task.specs.Facts.{allOn, onesIn}
+use Rattle.task.specs.Task.{Task, isInit, isGoal, applies}
+use Rattle.task.specs.declared.Action.{Action}
 use Rattle.task.specs.Reach.{member, every, Safe, Unsolvable, Dead, Reachable, AtMostReachable}
 use Rattle.task.specs.System.{System, States, Actions}
 use Rattle.meaning.specs.Result.{found}
@@ -38,8 +40,8 @@ use Rattle.meaning.specs.Small.{replyWithin, replySmall, breaches, Befor
 use Rattle.meaning.specs.Structure.{stateSetCount}
 use Rattle.meaning.specs.Relisted.{wrongIn, InState, Relisted}
 use Rattle.meaning.specs.Cases.{Case, cases, word, withLength, sample, fileBytes, explicit012, stepBytes, firstSteps, allSteps}
-use Rattle.meaning.specs.Cases.{unknownBytes, leaveFile}
-use Rattle.meaning.specs.Versions.{readTask₁, twin, movedReply, movedRound, movedAnswer}
+use Rattle.meaning.specs.Cases.{unknownBytes, leaveFile, offTable, offBytes, goalSteps, offFile}
+use Rattle.meaning.specs.Versions.{readTask₁, readTask₂, twin, movedReply, movedRound, movedAnswer, asVersion3}
 use Rattle.meaning.specs.Certain.{certificateOf}
 
 -- The sample has 234 bytes, and each of the twelve cases has its reply.
@@ -433,7 +435,6 @@ UnknownCases =
     × (replyOf (unknownBytes 1 1 4) ≡ Refused 16 14)
     × (replyOf (unknownBytes 0 1 4) ≡ Refused 5 22)
     × (replyOf (withLength (2 ∷ 2 ∷ word 0 ++ 0 ∷ [])) ≡ Refused 3 14)
-    × (replyOf (fileBytes 3 2 0 explicit012 3 0 allSteps) ≡ Refused 2 4)
     × (answerOf (unknownBytes 0 1 3) 1 0 ≡ answer.In)
     × (answerOf (unknownBytes 0 1 3) 1 1 ≡ answer.In)
     × (answerOf (unknownBytes 0 1 3) 1 2 ≡ answer.Out)
@@ -449,3 +450,75 @@ LeaveCases =
     × (shape₁ (leaveFile 8191) 3 2 ≡ true)
     × (shape₁ (leaveFile 8191) 2 1 ≡ true)
     × (shape₁ (leaveFile 8191) 1 6 ≡ true)
+
+-- ---- document 02, j: facts that an action or the goal needs off
+
+-- A version 2 file is read as document 02, d, says. In it, as in one of version 1, no fact is needed off: then an action applies where all
+-- its needs are on, and a state is forbidden by the one mask.
+abbrev pub VersionTwo : Type 0
+VersionTwo =
+    ((bytes : List ℕ) → number 1 bytes 4 ≡ 2 → readTask bytes ≡ readTask₂ bytes)
+    × ((a : Action) → a .off ≡ 0 → (s : ℕ) → applies a s ≡ allOn (a .pre) s)
+    × ((t : Task) → t .off ≡ 0 → (s : ℕ) → isGoal t s ≡ allOn (t .goal) s)
+
+-- A file of version 1 or 2 that is read gets the same reply as version 3, where that is within the limits; and so do a round, a question
+-- and a check with a caller's own rule numbers.
+abbrev pub SameAsVersion3 : {R : Type 0} → Limits → (List ℕ → R) → Type 0
+SameAsVersion3 l said =
+    (bytes : List ℕ) (f : File) → readWithin l bytes ≡ found f → FitsSize l (length (writeFile (asVersion3 f)))
+    → said (writeFile (asVersion3 f)) ≡ said bytes
+
+abbrev pub OlderReplies : Type 0
+OlderReplies = (l : Limits) → SameAsVersion3 l (replyWithin l)
+
+abbrev pub OlderChecks : Type 0
+OlderChecks =
+    SameAsVersion3 full replyOf
+    × ((numbers : List ℕ) → SameAsVersion3 full (λ bytes. replyNumbered bytes numbers))
+    × ((from count : ℕ) → SameAsVersion3 full (λ bytes. roundOf bytes from count))
+    × ((e s : ℕ) → SameAsVersion3 full (λ bytes. answerOf bytes e s))
+
+-- An action that needs a fact on and off applies nowhere. A goal with a fact in both masks has no state, and one with neither has every
+-- state.
+abbrev pub NeededBothWays : Type 0
+NeededBothWays =
+    ((a : Action) → 0 < bitAnd (a .pre) (a .off) → (s : ℕ) → applies a s ≡ false)
+    × ((t : Task) → 0 < bitAnd (t .goal) (t .off) → (s : ℕ) → isGoal t s ≡ false)
+    × ((t : Task) → t .goal ≡ 0 → t .off ≡ 0 → (s : ℕ) → isGoal t s ≡ true)
+
+-- The sample with events that need off what the other sets: accepted, and untrue where one of them needs nothing off. An event needs its
+-- facts off before it sets them. Each new mask has its own 3 and 5, and 16 is at 14 here too. Set 2 holds the states that meet both masks.
+abbrev pub OffCases : Type 0
+OffCases =
+    (replyOf (offBytes (offTable 0 0 3 0 2 1) explicit012 allSteps) ≡ Accepted)
+    × (replyOf (offBytes (offTable 0 0 3 0 0 1) explicit012 allSteps) ≡ Refused 11 1)
+    × (replyOf (offBytes (offTable 0 0 3 0 3 2) (0 ∷ 9 ∷ 3 ∷ word 0) allSteps) ≡ Refused 11 1)
+    × (replyOf (offBytes (offTable 0 0 1 2 2 1) explicit012 allSteps) ≡ Refused 11 2)
+    × (replyOf (offBytes (offTable 0 0 3 4 2 1) explicit012 allSteps) ≡ Refused 5 30)
+    × (replyOf (offBytes (offTable 0 0 3 0 4 1) explicit012 allSteps) ≡ Refused 5 64)
+    × (replyOf (offBytes (offTable 0 0 3 0 2 4) explicit012 allSteps) ≡ Refused 5 96)
+    × (replyOf (offBytes (offTable 1 1 3 0 2 1) explicit012 allSteps) ≡ Refused 16 14)
+    × (replyOf (withLength (take 33 (offTable 0 0 3 0 2 1))) ≡ Refused 3 30)
+    × (replyOf (withLength (take 67 (offTable 0 0 3 0 2 1))) ≡ Refused 3 64)
+    × (replyOf (fileBytes 4 2 0 explicit012 3 0 allSteps) ≡ Refused 2 4)
+    × (answerOf (offBytes (offTable 0 0 1 2 2 1) explicit012 allSteps) 2 0 ≡ answer.Out)
+    × (answerOf (offBytes (offTable 0 0 1 2 2 1) explicit012 allSteps) 2 1 ≡ answer.In)
+    × (answerOf (offBytes (offTable 0 0 1 2 2 1) explicit012 allSteps) 2 2 ≡ answer.Out)
+    × (answerOf (offBytes (offTable 0 0 1 2 2 1) explicit012 allSteps) 2 3 ≡ answer.Out)
+
+-- A goal without states: kind 2 is within the empty set, and so dead, and its task unsolvable, whatever the actions do. It is kind 2 still:
+-- a rule does not take it for the empty set (9), it gives no leave, and it counts among the two on the right, where kind 0 does not. With
+-- no mask at all, every state is forbidden. And [A]S has the states before the action, where what it needs off is off.
+abbrev pub NoGoalCases : Type 0
+NoGoalCases =
+    (replyOf (offBytes (offTable 0 0 1 1 0 0) explicit012 goalSteps) ≡ Accepted)
+    × (replyOf (offBytes (offTable 0 0 3 0 0 0) explicit012 goalSteps) ≡ Refused 11 1)
+    × (replyOf (offBytes (offTable 0 0 1 1 0 0) explicit012 (0 ∷ 1 ∷ stepBytes 6 0 2 0 0 0 0)) ≡ Refused 9 0)
+    × (replyOf (offBytes (offTable 0 0 0 0 2 1) explicit012 allSteps) ≡ Refused 11 2)
+    × (shape₁ offFile 1 0 ≡ true)
+    × (shape₁ offFile 1 2 ≡ false)
+    × (shape₁ offFile 0 3 ≡ true)
+    × (shape₁ offFile 0 4 ≡ false)
+    × (shape₁ offFile 0 6 ≡ true)
+    × (inSet offFile 7 0 ≡ true)
+    × (inSet offFile 7 1 ≡ false)

@@ -25,8 +25,12 @@ unfoldable pub each : {A : Type 0} → (A → List ℕ) → List A → List ℕ
 each write [] = []
 each write (x ∷ xs) = write x ++ each write xs
 
-unfoldable pub writeAction : Action → List ℕ
-writeAction a = bytesOf 8 (a .pre) ++ bytesOf 8 (a .add) ++ bytesOf 8 (a .del)
+-- a mask of facts that are off; versions 1 and 2 have no such field
+unfoldable pub writeOff : ℕ → ℕ → List ℕ
+writeOff v m = elim (eqb v 3) [ true ↦ bytesOf 8 m | false ↦ [] ]
+
+unfoldable pub writeAction : ℕ → Action → List ℕ
+writeAction v a = bytesOf 8 (a .pre) ++ bytesOf 8 (a .add) ++ bytesOf 8 (a .del) ++ writeOff v (a .off)
 
 unfoldable pub writeClause : Clause → List ℕ
 writeClause c = bytesOf 8 (c .positive) ++ bytesOf 8 (c .negative)
@@ -76,7 +80,8 @@ writeUnknown v t = elim (eqb v 1) [ true ↦ [] | false ↦ bytesOf 8 (t .unknow
 -- the fields from the version up to and with the actions
 unfoldable pub writeTask : ℕ → Task → List ℕ
 writeTask v t =
-    v ∷ t .facts ∷ bytesOf 8 (t .init) ++ writeUnknown v t ++ bytesOf 8 (t .goal) ++ counted writeAction (t .actions)
+    v ∷ t .facts ∷ bytesOf 8 (t .init) ++ writeUnknown v t ++ bytesOf 8 (t .goal) ++ writeOff v (t .off)
+    ++ counted (writeAction v) (t .actions)
 
 -- the fields after them: the certificate
 unfoldable pub writeCertificate : List ActionSet → List StateSet → List Step → List ℕ
@@ -109,6 +114,7 @@ pub record FitsAction (n : ℕ) (a : Action) : Type 0 where
   pub pre : a .pre < 2 ^ n
   pub add : a .add < 2 ^ n
   pub del : a .del < 2 ^ n
+  pub off : a .off < 2 ^ n
 
 pub record FitsTask (t : Task) : Type 0 where
   pub some-facts : 1 ≤ t .facts
@@ -117,12 +123,18 @@ pub record FitsTask (t : Task) : Type 0 where
   pub unknown : t .unknown < 2 ^ t .facts
   pub apart : bitAnd (t .init) (t .unknown) ≡ 0
   pub goal : t .goal < 2 ^ t .facts
+  pub off : t .off < 2 ^ t .facts
   pub few-actions : length (t .actions) ≤ 256
   pub actions : All (FitsAction (t .facts)) (t .actions)
 
--- version 1 has no unknown facts
+-- no fact is needed off
+pub record NoneOff (t : Task) : Type 0 where
+  pub goal : t .off ≡ 0
+  pub actions : All (λ a. a .off ≡ 0) (t .actions)
+
+-- version 1 has no unknown facts, and in versions 1 and 2 no fact is needed off
 abbrev pub FitsVersion : ℕ → Task → Type 0
-FitsVersion v t = ((v ≡ 1) × (t .unknown ≡ 0)) ⊎ (v ≡ 2)
+FitsVersion v t = ((v ≡ 1) × (t .unknown ≡ 0) × NoneOff t) ⊎ ((v ≡ 2) × NoneOff t) ⊎ (v ≡ 3)
 
 -- entry i of a file with m actions
 abbrev pub FitsActionSet : ℕ → ℕ → ActionSet → Type 0
