@@ -8,7 +8,7 @@ use mathlib.Core.Bool.{Bool, _&&_}
 use mathlib.Core.List.{List, [], _∷_, _++_, append-assoc, append-nil}
 use lib.ListN.{length, take, drop, take-append-drop, length-append, length-drop}
 use lib.Seq.{drop-drop, append-snoc}
-use lib.Dec.{leb, ltb, leb→le, ltb→lt}
+use lib.Dec.{leb, ltb, eqb, leb→le, ltb→lt}
 use Rattle.task.specs.declared.Action.{Action}
 use Rattle.task.specs.Reach.{every}
 use Rattle.task.proofs.Tests.{and-left, and-right, and-both}
@@ -16,10 +16,12 @@ use Rattle.meaning.specs.declared.Clause.{Clause}
 use Rattle.meaning.specs.Result.{Result, found, _>>=_, need}
 use Rattle.meaning.specs.Bytes.{bigEndian, bytesOf, number, inside, AreBytes}
 use Rattle.meaning.specs.File.{Step}
-use Rattle.meaning.specs.Layout.{items, ascending, field, count, mask, reference, action, clause, step}
-use Rattle.meaning.specs.Writing.{each, writeAction, writeClause, writeStep}
+use Rattle.meaning.specs.Layout.{items, ascending, field, count, mask, reference, offSize, actionSize, offMask, action, clause, step}
+use Rattle.meaning.specs.Writing.{each, writeOff, writeAction, writeClause, writeStep}
 use Rattle.meaning.proofs.Results.{found-same, bind-case, need-case}
 use Rattle.meaning.proofs.Numbers.{number-lt}
+use Rattle.meaning.proofs.Places.{by-test, off-none, off-some, places}
+use Rattle.meaning.proofs.Off.{read-off, written-off, written-no-off}
 
 -- x is what stands from place p up to place q
 pub record Spans (bytes : List ℕ) (p q : ℕ) (x : List ℕ) : Type 0 where
@@ -133,15 +135,23 @@ module _ (bytes : List ℕ) (h : AreBytes bytes) where
   unfolding reference
   reference-again bound = tested-again 2 (λ r. ltb r bound) 6
 
-  pub action-again : (n : ℕ) → Again bytes writeAction 24 (action bytes n)
+  pub off-again : (v n : ℕ) → Again bytes (writeOff v) (offSize v) (offMask bytes v n)
+  off-again v n p q e m m! =
+      by-test (eqb v 3)
+      (λ t. rw (written-off v m t) (mask-again n p q (omega (arith, off-some v t)) m (sym (read-off bytes v n p t) ∙ m!)))
+      (λ f. rw (written-no-off v m f) (spans-none p q (omega (arith, off-none v f))))
+
+  pub action-again : (v n : ℕ) → Again bytes (writeAction v) (actionSize v) (action bytes v n)
   unfolding action writeAction
-  action-again n p q e v v! =
-      bind-case (mask bytes n p) _ v v! λ a a! e₁.
-      bind-case (mask bytes n (p + 8)) _ v e₁ λ b b! e₂.
-      bind-case (mask bytes n (p + 16)) _ v e₂ λ c c! s.
-      subst (λ (x : Action). Spans bytes p q (writeAction x)) (found-same s)
-      (joined (joined (mask-again n p (p + 8) refl a a!) (mask-again n (p + 8) (p + 16) (omega arith) b b!))
-      (mask-again n (p + 16) q (omega arith) c c!))
+  action-again v n p q e x x! =
+      bind-case (mask bytes n p) _ x x! λ a a! e₁.
+      bind-case (mask bytes n (p + 8)) _ x e₁ λ b b! e₂.
+      bind-case (mask bytes n (p + 16)) _ x e₂ λ c c! e₃.
+      bind-case (offMask bytes v n (p + 24)) _ x e₃ λ d d! s.
+      let o = places v in
+      subst (λ (y : Action). Spans bytes p q (writeAction v y)) (found-same s)
+      (joined (joined (joined (mask-again n p (p + 8) refl a a!) (mask-again n (p + 8) (p + 16) (omega arith) b b!))
+      (mask-again n (p + 16) (p + 24) (omega arith) c c!)) (off-again v n (p + 24) q (omega arith) d d!))
 
   pub clause-again : (n : ℕ) (rule : ℕ → ℕ → Bool) → Again bytes writeClause 16 (clause bytes n rule)
   unfolding clause writeClause

@@ -1,21 +1,23 @@
 -- Reading what was written: fields, and items one after the other.
 -- Assumes nothing.
-use mathlib.Core.Path.{_≡_, refl, sym, ap, _∙_}
+use mathlib.Core.Path.{_≡_, refl, sym, ap, subst, _∙_}
 use Prim.Native.Nat.{ℕ, suc, _+_, _*_, _^_, _≤_, _<_}
 use native.Mathlib.Nat.{le-trans, pow-le-pow-right, mul-suc}
 use native.Mathlib.Omega.{arith}
 use mathlib.Core.Bool.{Bool}
 use mathlib.Core.List.{List, [], _∷_, _++_, append-assoc}
 use lib.ListN.{length, length-append}
-use lib.Dec.{leb, ltb, le→leb, lt→ltb}
+use lib.Dec.{leb, ltb, eqb, le→leb, lt→ltb}
 use Rattle.meaning.specs.Result.{Result, found, _>>=_, need}
 use Rattle.meaning.specs.Bytes.{bytesOf, number}
 use Rattle.meaning.specs.File.{Step}
-use Rattle.meaning.specs.Layout.{items, ascending, field, count, mask, reference, action, clause, step}
-use Rattle.meaning.specs.Writing.{each, writeAction, writeClause, writeStep, AllFrom, All, Ascending, FitsAction, FitsStep}
+use Rattle.meaning.specs.Layout.{items, ascending, field, count, mask, reference, offMask, action, clause, step}
+use Rattle.meaning.specs.Writing.{each, writeOff, writeAction, writeClause, writeStep, AllFrom, All, Ascending, FitsStep}
 use Rattle.meaning.proofs.Results.{bind-in, need-in, and-in}
 use Rattle.meaning.proofs.Numbers.{length-bytesOf}
 use Rattle.meaning.proofs.Given.{FitsClause}
+use Rattle.meaning.proofs.Places.{by-test}
+use Rattle.meaning.proofs.Off.{FitsOff, FitsActionOf, read-off, read-no-off, written-off}
 use Rattle.meaning.proofs.Suffix.{At, at-next, inside-here, number-back, after-number, byte-back, after-byte}
 
 -- the reader gives the value wherever its bytes stand, if it fits
@@ -57,15 +59,26 @@ module _ (bytes : List ℕ) where
   unfolding reference
   reference-back bound b = bounded-back 2 bound 6 b
 
-  pub action-back : (n : ℕ) → n ≤ 64 → Back bytes (FitsAction n) writeAction (action bytes n)
+  pub off-back : (v n : ℕ) → n ≤ 64 → Back bytes (FitsOff v n) (writeOff v) (offMask bytes v n)
+  off-back v n b m h p rest w =
+      by-test (eqb v 3)
+      (λ t.
+      let a : At bytes p (bytesOf 8 m ++ rest) = subst (λ (x : List ℕ). At bytes p (x ++ rest)) (written-off v m t) w in
+      read-off bytes v n p t ∙ mask-back n b m (h .0) p rest a)
+      (λ f. read-no-off bytes v n p f ∙ ap found (sym (h .1 f)))
+
+  pub action-back : (v n : ℕ) → n ≤ 64 → Back bytes (FitsActionOf v n) (writeAction v) (action bytes v n)
   unfolding action writeAction
-  action-back n b a h p rest w =
-      let w₀ : At bytes p (bytesOf 8 (a .pre) ++ (bytesOf 8 (a .add) ++ (bytesOf 8 (a .del) ++ rest))) = simp append-assoc at w in
+  action-back v n b a (h, o) p rest w =
+      let w₀ : At bytes p (bytesOf 8 (a .pre) ++ (bytesOf 8 (a .add) ++ (bytesOf 8 (a .del) ++ (writeOff v (a .off) ++ rest)))) =
+      simp append-assoc at w in
       let w₁ = after-number bytes p 8 (a .pre) _ w₀ (p + 8) refl in
       let w₂ = after-number bytes (p + 8) 8 (a .add) _ w₁ (p + 16) (omega arith) in
+      let w₃ = after-number bytes (p + 16) 8 (a .del) _ w₂ (p + 24) (omega arith) in
       bind-in _ (mask-back n b (a .pre) (h .pre) p _ w₀)
       (bind-in _ (mask-back n b (a .add) (h .add) (p + 8) _ w₁)
-      (bind-in _ (mask-back n b (a .del) (h .del) (p + 16) rest w₂) refl))
+      (bind-in _ (mask-back n b (a .del) (h .del) (p + 16) _ w₂)
+      (bind-in _ (off-back v n b (a .off) (h .off, o) (p + 24) rest w₃) refl)))
 
   pub clause-back : (n : ℕ) (rule : ℕ → ℕ → Bool) → n ≤ 64 → Back bytes (FitsClause n rule) writeClause (clause bytes n rule)
   unfolding clause writeClause

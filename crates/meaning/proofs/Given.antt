@@ -1,22 +1,25 @@
 -- What each reader gives: only values that the format can hold.
 -- Assumes nothing.
-use mathlib.Core.Path.{_≡_, refl, sym, ap, subst}
+use mathlib.Core.Path.{_≡_, refl, sym, ap, subst, _∙_}
 use mathlib.Core.Option.{some}
 use Prim.Native.Nat.{ℕ, zero, suc, _+_, _-_, _/_, _%_, _^_, _<_, _≤_}
 use native.Mathlib.Omega.{arith}
-use mathlib.Core.Bool.{Bool, true, _&&_}
+use mathlib.Core.Bool.{Bool, true, _&&_, true≢false}
 use mathlib.Core.List.{List, [], _∷_}
 use lib.ListN.{length, getElem?}
+use lib.Pow.{pow-pos}
 use lib.Dec.{T, eqb, ltb, leb, ltb→lt, leb→le}
 use Rattle.meaning.specs.declared.Clause.{Clause}
 use Rattle.meaning.specs.Result.{Result, found, _>>=_, need, known}
 use Rattle.meaning.specs.Bytes.{number, inside}
 use Rattle.meaning.specs.File.{ActionSet, all, listed, either, Basic, empty, init, goal, explicit, horn, twoCnf, StateSet, basic}
 use Rattle.meaning.specs.File.{complement, intersection, union, progression, regression}
-use Rattle.meaning.specs.Layout.{items, ascending, field, count, mask, reference, action, clause, Kind, plain, upTo, one, two}
+use Rattle.meaning.specs.Layout.{items, ascending, field, count, mask, reference, offMask, action, clause, Kind, plain, upTo, one, two}
 use Rattle.meaning.specs.Layout.{clauses, actionKinds, stateKinds, hornRule, twoCnfRule, entry, entries}
-use Rattle.meaning.specs.Writing.{AllFrom, All, Ascending, FitsAction, FitsActionSet, FitsClauses, FitsStateSet, listedStates}
+use Rattle.meaning.specs.Writing.{AllFrom, All, Ascending, FitsActionSet, FitsClauses, FitsStateSet, listedStates}
 use Rattle.meaning.proofs.Results.{found-same, bind-case, need-case, known-out, and-out}
+use Rattle.meaning.proofs.Places.{by-test}
+use Rattle.meaning.proofs.Off.{FitsOff, FitsActionOf, read-off, read-no-off}
 
 -- whatever the reader gives has the property
 abbrev pub Gives : {A : Type 0} → (A → Type 0) → (ℕ → Result A) → Type 0
@@ -48,14 +51,23 @@ count-gives bytes low high p c e =
     let b = and-out (leb low x) (leb x high) t in
     subst (λ (y : ℕ). (low ≤ y) × (y ≤ high)) (found-same q) (leb→le low x (b .0), leb→le x high (b .1))
 
-pub action-gives : (bytes : List ℕ) (n : ℕ) → Gives (FitsAction n) (action bytes n)
+pub off-gives : (bytes : List ℕ) (v n : ℕ) → Gives (FitsOff v n) (offMask bytes v n)
+off-gives bytes v n p m e =
+    by-test (eqb v 3)
+    (λ t. (mask-gives bytes n p m (sym (read-off bytes v n p t) ∙ e), λ f. absurd (true≢false (sym t ∙ f))))
+    (λ f. let z : 0 ≡ m = found-same (sym (read-no-off bytes v n p f) ∙ e) in (omega (arith, pow-pos n), λ _. sym z))
+
+pub action-gives : (bytes : List ℕ) (v n : ℕ) → Gives (FitsActionOf v n) (action bytes v n)
 unfolding action
-action-gives bytes n p v e =
-    bind-case (mask bytes n p) _ v e λ a a! e₁.
-    bind-case (mask bytes n (p + 8)) _ v e₁ λ b b! e₂.
-    bind-case (mask bytes n (p + 16)) _ v e₂ λ c c! q.
-    subst (FitsAction n) (found-same q)
-    (record { pre = mask-gives bytes n p a a!; add = mask-gives bytes n (p + 8) b b!; del = mask-gives bytes n (p + 16) c c! })
+action-gives bytes v n p x e =
+    bind-case (mask bytes n p) _ x e λ a a! e₁.
+    bind-case (mask bytes n (p + 8)) _ x e₁ λ b b! e₂.
+    bind-case (mask bytes n (p + 16)) _ x e₂ λ c c! e₃.
+    bind-case (offMask bytes v n (p + 24)) _ x e₃ λ d d! q.
+    let o = off-gives bytes v n (p + 24) d d! in
+    let m = mask-gives bytes n in
+    subst (FitsActionOf v n) (found-same q)
+    (record { pre = m p a a!; add = m (p + 8) b b!; del = m (p + 16) c c!; off = o .0 }, o .1)
 
 -- a clause over n facts, under the rule
 abbrev pub FitsClause : ℕ → (ℕ → ℕ → Bool) → Clause → Type 0

@@ -2,6 +2,7 @@ pub mod Results
 pub mod Numbers
 pub mod Numbered
 pub mod Places
+pub mod Off
 pub mod LayoutFaults
 pub mod Stages
 pub mod Breaches

@@ -1,21 +1,27 @@
 -- Laws of the places that depend on the version: all that the proofs know of them.
 -- Assumes nothing.
-use mathlib.Core.Path.{_≡_, refl}
+use mathlib.Core.Path.{_≡_, refl, sym, ap}
 use Prim.Native.Nat.{ℕ, _+_, _*_, _≤_}
 use native.Mathlib.Omega.{arith}
 use mathlib.Core.List.{List}
 use mathlib.Core.Bool.{Bool, true, false}
 use lib.Dec.{eqb}
 use Rattle.meaning.specs.Bytes.{number}
-use Rattle.meaning.specs.Layout.{goalAt, actionCountAt, actionSize, afterActions}
+use Rattle.meaning.specs.Layout.{goalAt, offSize, actionCountAt, actionSize, afterActions}
 use Rattle.meaning.specs.Structure.{actionSetCount}
 
--- the goal's mask stands at 14 or 22, and the count of the actions behind it
+-- a test that decides between two things
+pub by-test : {X : Type 0} (b : Bool) → (b ≡ true → X) → (b ≡ false → X) → X
+by-test true h k = h refl
+by-test false h k = k refl
+
+-- the goal's mask stands at 14 or 22, a mask of facts that are off has 8 bytes or none, and the count of the actions stands behind it
 pub record Placed (v : ℕ) : Type 0 where
   pub low : 14 ≤ goalAt v
   pub high : goalAt v ≤ 22
-  pub next : actionCountAt v ≡ goalAt v + 8
-  pub size : actionSize v ≡ 24
+  pub off : offSize v ≤ 8
+  pub next : actionCountAt v ≡ goalAt v + 8 + offSize v
+  pub size : actionSize v ≡ 24 + offSize v
 
 pub goal-first : (v : ℕ) → eqb v 1 ≡ true → goalAt v ≡ 14
 unfolding goalAt
@@ -25,13 +31,23 @@ pub goal-later : (v : ℕ) → eqb v 1 ≡ false → goalAt v ≡ 22
 unfolding goalAt
 goal-later v e = rw (goalAt, e) refl
 
+pub off-none : (v : ℕ) → eqb v 3 ≡ false → offSize v ≡ 0
+unfolding offSize
+off-none v e = rw (offSize, e) refl
+
+pub off-some : (v : ℕ) → eqb v 3 ≡ true → offSize v ≡ 8
+unfolding offSize
+off-some v e = rw (offSize, e) refl
+
 pub places : (v : ℕ) → Placed v
-unfolding goalAt actionCountAt actionSize
-places v = record { low = go (eqb v 1) .0; high = go (eqb v 1) .1; next = refl; size = refl }
-  where
-    go : (b : Bool) → (14 ≤ (elim b [ true ↦ 14 | false ↦ 22 ])) × ((elim b [ true ↦ 14 | false ↦ 22 ]) ≤ 22)
-    go true = (omega arith, omega arith)
-    go false = (omega arith, omega arith)
+unfolding actionCountAt actionSize
+places v = record {
+  low = by-test (eqb v 1) (λ e. omega (arith, goal-first v e)) (λ e. omega (arith, goal-later v e));
+  high = by-test (eqb v 1) (λ e. omega (arith, goal-first v e)) (λ e. omega (arith, goal-later v e));
+  off = by-test (eqb v 3) (λ e. omega (arith, off-some v e)) (λ e. omega (arith, off-none v e));
+  next = refl;
+  size = refl;
+}
 
 pub after-actions : (v m : ℕ) → afterActions v m ≡ actionCountAt v + 2 + actionSize v * m
 unfolding afterActions
