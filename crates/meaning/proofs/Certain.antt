@@ -3,7 +3,7 @@
 use mathlib.Core.Path.{_≡_, refl, sym, ap, _∙_, subst}
 use mathlib.Core.Logic.{_↔_}
 use Prim.Native.Nat.{ℕ, suc, _+_, _*_, _^_, _≤_, _<_}
-use native.Mathlib.Nat.{le-trans}
+use native.Mathlib.Nat.{le-trans, mul-le-mul-right}
 use native.Mathlib.Omega.{arith}
 use mathlib.Core.Bool.{Bool, true, false, _&&_, _||_}
 use mathlib.Core.List.{List, [], _∷_}
@@ -188,7 +188,7 @@ steps-fit = (
 record Roomy (l : Limits) : Type 0 where
   states : l .states ≤ full .states
   steps : 8 ≤ l .steps
-  least : 28 + 24 * 256 + 8 * l .states + 142 ≤ l .size
+  least : 36 + 32 * 256 + 8 * l .states + 142 ≤ l .size
   most : l .size ≤ full .size
 
 full-roomy : Roomy full
@@ -243,13 +243,13 @@ module _ (l : Limits) (room : Roomy l) (table : List ℕ) (t : Task) (lawful : L
       let none : 0 ≤ l .states = omega arith in
       record { states = (none, (none, (none, (few, (none, (none, (none, tt))))))); steps = room .steps }
 
-  table-length : length table ≤ 28 + 24 * 256
+  table-length : length table ≤ 36 + 32 * 256
   table-length =
       let r = task-read (fileOf table []) t (4 + length table) lawful in
       let v : ℕ = number 1 (fileOf table []) 4 in
       let o = places v in
       let e = after-actions v (length (t .actions)) in
-      let w : actionSize v * length (t .actions) ≡ 24 * length (t .actions) = ap (λ (k : ℕ). k * length (t .actions)) (o .size) in
+      let w : actionSize v * length (t .actions) ≤ 32 * length (t .actions) = mul-le-mul-right (length (t .actions)) (omega arith) in
       omega (arith, r .ends, r .fits .few-actions)
 
   short : length (fileOf table (certificateOf ss)) ≤ l .size

@@ -12,13 +12,14 @@ use Rattle.meaning.specs.Result.{Result, found, _>>=_, need}
 use Rattle.meaning.specs.Bytes.{number}
 use Rattle.meaning.specs.declared.Clause.{Clause}
 use Rattle.meaning.specs.File.{Basic, basic}
-use Rattle.meaning.specs.Layout.{items, ascending, field, count, mask, reference, action, clause, step, Kind, plain, one, two}
-use Rattle.meaning.specs.Layout.{clauses, goalAt, actionCountAt, actionSize, afterActions, unknownMask, readTask}
+use Rattle.meaning.specs.Layout.{items, ascending, field, count, mask, reference, offMask, action, clause, step, Kind, plain, one, two}
+use Rattle.meaning.specs.Layout.{clauses, goalAt, offSize, actionCountAt, actionSize, afterActions, unknownMask, readTask}
 use Rattle.meaning.specs.Structure.{actionSetCount}
 use Rattle.meaning.specs.Points.{OfLayout}
 use Rattle.meaning.proofs.Results.{and-out}
 use Rattle.meaning.proofs.Numbered.{Yields, given, Numbered, then-ok, need-ok, either-ok}
-use Rattle.meaning.proofs.Places.{places, after-actions}
+use Rattle.meaning.proofs.Places.{by-test, off-some, places, after-actions}
+use Rattle.meaning.proofs.Off.{read-off, read-no-off}
 
 -- one of the layout's numbers, from place lo to place hi
 pub record Within (lo hi r q : ℕ) : Type 0 where
@@ -86,12 +87,20 @@ module _ (lo hi : ℕ) where
     unfolding reference
     reference-in bound = bounded-in 2 bound 6 tt
 
-    action-in : (n : ℕ) → Part lo hi 24 (action bytes n)
+    off-in : (v n : ℕ) → Part lo hi (offSize v) (offMask bytes v n)
+    off-in v n p l h =
+        by-test (eqb v 3)
+        (λ t. rw (read-off bytes v n p t) (mask-in n p l (omega (arith, off-some v t))))
+        (λ f. rw (read-no-off bytes v n p f) (given tt))
+
+    action-in : (v n : ℕ) → Part lo hi (actionSize v) (action bytes v n)
     unfolding action
-    action-in n p l h =
+    action-in v n p l h =
+        let o = places v in
         then-ok (mask-in n p l (omega arith)) (λ _ _.
         then-ok (mask-in n (p + 8) (omega arith) (omega arith)) (λ _ _.
-        then-ok (mask-in n (p + 16) (omega arith) (omega arith)) (λ _ _. given tt)))
+        then-ok (mask-in n (p + 16) (omega arith) (omega arith)) (λ _ _.
+        then-ok (off-in v n (p + 24) (omega arith) (omega arith)) (λ _ _. given tt))))
 
     clause-in : (n : ℕ) (rule : ℕ → ℕ → Bool) → Part lo hi 16 (clause bytes n rule)
     unfolding clause
@@ -115,7 +124,7 @@ module _ (lo hi : ℕ) where
 
     pub task-in : lo ≤ 4 → actionSetCount bytes ≤ hi
         → Yields (Within lo hi) (λ t. (t .0 .facts ≡ number 1 bytes 5) × (t .1 ≡ actionSetCount bytes)) (readTask bytes)
-    unfolding readTask actionSize actionSetCount
+    unfolding readTask actionSetCount
     task-in l h =
         let v : ℕ = number 1 bytes 4 in
         let o = places v in
@@ -127,9 +136,10 @@ module _ (lo hi : ℕ) where
         then-ok (mask-in n 6 (omega arith) (omega arith)) (λ s _.
         then-ok (unknown-in v n s (omega arith) (omega arith)) (λ _ _.
         then-ok (mask-in n (goalAt v) (omega arith) (omega arith)) (λ _ _.
+        then-ok (off-in v n (goalAt v + 8) (omega arith) (omega arith)) (λ _ _.
         then-ok (count-in 0 256 (actionCountAt v) (omega arith) (omega arith)) (λ m c.
-        then-ok (items-in _ (actionSize v) (action-in n) m (actionCountAt v + 2) (omega arith) (omega arith)) (λ _ _.
-        given (i, ap (afterActions v) (c .0))))))))))))
+        then-ok (items-in _ (actionSize v) (action-in v n) m (actionCountAt v + 2) (omega arith) (rw (c .0) (omega arith))) (λ _ _.
+        given (i, ap (afterActions v) (c .0)))))))))))))
 
 -- ---- bodies of entries, of a length that fits the kind
 

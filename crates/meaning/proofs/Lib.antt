@@ -54,6 +54,7 @@ pub mod Twins
 pub mod RelistedSets
 pub mod RelistedReads
 pub mod Versions
+pub mod Older
 pub mod Moved
 pub mod MovedReads
 pub mod MovedFiles

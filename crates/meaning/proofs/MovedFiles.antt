@@ -17,7 +17,7 @@ use Rattle.meaning.specs.Bytes.{number, inside, AreBytes}
 use Rattle.meaning.specs.declared.Limits.{Limits}
 use Rattle.meaning.specs.Limits.{full}
 use Rattle.meaning.specs.File.{File}
-use Rattle.meaning.specs.Layout.{goalAt, actionCountAt, actionSize, afterActions, field, mask, unknownMask, readTask, readWithin}
+use Rattle.meaning.specs.Layout.{goalAt, actionCountAt, actionSize, afterActions, field, mask, offSize, unknownMask, offMask, readTask, readWithin}
 use Rattle.meaning.specs.Layout.{readFile}
 use Rattle.meaning.specs.Writing.{FitsSize}
 use Rattle.meaning.specs.Sets.{inSet}
@@ -87,7 +87,7 @@ module _ (a : List ℕ) (long : 14 ≤ length a) where
   module _ (one : number 1 a 4 ≡ 1) where
     -- the task, and the file
     task-moved : Moved Ends (readTask a) (readTask b)
-    unfolding readTask unknownMask goalAt actionCountAt actionSize afterActions movedPlace ofBytes _>>=_
+    unfolding readTask unknownMask offMask goalAt offSize actionCountAt actionSize afterActions movedPlace ofBytes _>>=_
     task-moved =
         let t : length b ≡ length a + 8 = twin-length a long in
         let n : ℕ = number 1 a 5 in

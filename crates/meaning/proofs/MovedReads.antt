@@ -13,7 +13,7 @@ use Rattle.meaning.specs.Result.{Result, refuse, found, _>>=_, need, kno
 use Rattle.meaning.specs.Bytes.{number}
 use Rattle.meaning.specs.File.{either, explicit, horn, twoCnf, basic, complement, intersection, union, progression, regression}
 use Rattle.meaning.specs.Layout.{hornRule, twoCnfRule, items, ascending, field, count, mask, reference, action, clause, step, Kind}
-use Rattle.meaning.specs.Layout.{plain, one, two, clauses, actionKinds, stateKinds, entry, entries}
+use Rattle.meaning.specs.Layout.{plain, one, two, clauses, actionKinds, stateKinds, entry, entries, offMask}
 use Rattle.meaning.specs.Versions.{twin, ofBytes, movedPlace}
 use Rattle.meaning.proofs.Moved.{number-moved, inside-moved}
 
@@ -116,8 +116,8 @@ module _ (a : List ℕ) (long : 14 ≤ length a) where
   unfolding reference
   reference-moved bound p q l e = bind-same (field-moved 2 p q l e) λ _. bind-same (need-later 6 refl tt l e) λ _. both refl
 
-  pub action-moved : (n : ℕ) → Reads (action a n) (action b n)
-  unfolding action
+  pub action-moved : (n : ℕ) → Reads (action a 1 n) (action b 2 n)
+  unfolding action offMask _>>=_
   action-moved n p q l e =
       bind-same (mask-moved n p q l e) λ _.
       bind-same (mask-moved n (p + 8) (q + 8) (omega arith) (omega arith)) λ _.

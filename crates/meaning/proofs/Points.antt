@@ -4,6 +4,7 @@ use mathlib.Core.Path.{refl}
 use Rattle.meaning.specs.Bytes.{bytesOf}
 use Rattle.meaning.specs.Writing.{each, writeEntry, actionBody, basicBody, stateBody, writeActionSet, writeStateSet, writeStep}
 use Rattle.meaning.specs.Writing.{counted, writeCertificate, fileOf}
+use Rattle.meaning.specs.Points.{VersionTwo, OlderReplies, OlderChecks, NeededBothWays, OffCases, NoGoalCases}
 use Rattle.meaning.specs.Points.{VersionOne, TwinReplies, TwinChecks, TwinForm, FewUnknown, UnknownCases, LeaveCases}
 use Rattle.task.proofs.Initial.{few-unknown-facts}
 use Rattle.meaning.proofs.Reading.{reads-within}
@@ -34,7 +35,8 @@ use Rattle.meaning.proofs.Rounds.{round-says, hands-back, one-round}
 use Rattle.meaning.proofs.RelistedReads.{order-alike, limited-order-alike, numbered-order-alike, round-order-alike}
 use Rattle.meaning.proofs.RelistedReads.{answer-order-alike, first-wrong-state, no-order-fault}
 use Rattle.meaning.proofs.Runs.{run-is-check, run-ends, run-is-safe, fewest-rounds, questions-between}
-use Rattle.meaning.proofs.Versions.{version-one}
+use Rattle.meaning.proofs.Versions.{version-one, version-two, needed-both-ways}
+use Rattle.meaning.proofs.Older.{older-replies, older-checks}
 use Rattle.meaning.proofs.MovedFiles.{twin-replies, twin-checks}
 use Rattle.meaning.proofs.TwinForm.{twin-form}
 
@@ -226,8 +228,30 @@ a-task-of-few-states-has-few-unknown-facts t h = few-unknown-facts t 12 h
 
 pub the-sample-with-unknown-facts : UnknownCases
 unfolding computed
-the-sample-with-unknown-facts = (refl, refl, refl, refl, refl, refl, refl, refl, refl, refl, refl, refl, refl, refl)
+the-sample-with-unknown-facts = (refl, refl, refl, refl, refl, refl, refl, refl, refl, refl, refl, refl, refl)
 
 pub kind-1-gives-leave-up-to-12-facts : LeaveCases
 unfolding computed
 kind-1-gives-leave-up-to-12-facts = (refl, refl, refl, refl, refl, refl, refl)
+
+-- ---- document 02, j
+
+pub version-2-is-read-as-before : VersionTwo
+version-2-is-read-as-before = version-two
+
+pub an-older-file-gets-the-reply-of-version-3 : OlderReplies
+an-older-file-gets-the-reply-of-version-3 = older-replies
+
+pub an-older-file-is-checked-alike : OlderChecks
+an-older-file-is-checked-alike = older-checks
+
+pub a-fact-needed-on-and-off-is-never-met : NeededBothWays
+a-fact-needed-on-and-off-is-never-met = needed-both-ways
+
+pub the-sample-with-facts-needed-off : OffCases
+unfolding computed
+the-sample-with-facts-needed-off = (refl, refl, refl, refl, refl, refl, refl, refl, refl, refl, refl, refl, refl, refl, refl)
+
+pub a-goal-without-states-is-kind-2-still : NoGoalCases
+unfolding computed
+a-goal-without-states-is-kind-2-still = (refl, refl, refl, refl, refl, refl, refl, refl, refl, refl, refl)

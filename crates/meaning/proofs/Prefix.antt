@@ -3,7 +3,7 @@
 use mathlib.Core.Path.{_≡_, sym, ap, _∙_, subst}
 use Prim.Native.Nat.{ℕ, zero, suc, _+_, _-_, _≤_}
 use native.Mathlib.Omega.{arith}
-use mathlib.Core.Bool.{_&&_, _||_}
+use mathlib.Core.Bool.{_&&_}
 use mathlib.Core.List.{List, []}
 use lib.ListN.{length, take, drop, length-drop}
 use lib.Seq.{drop-append-le, take-append-le, drop-drop}
@@ -11,11 +11,12 @@ use lib.Dec.{leb, eqb, leb→le, le→leb}
 use Rattle.task.specs.Task.{Task}
 use Rattle.meaning.specs.Result.{Result, found, need}
 use Rattle.meaning.specs.Bytes.{bigEndian, number, inside}
-use Rattle.meaning.specs.Layout.{items, field, count, mask, action, goalAt, actionCountAt, actionSize, unknownMask, readTask}
+use Rattle.meaning.specs.Layout.{items, field, count, mask, offMask, action, goalAt, actionCountAt, actionSize, unknownMask, readTask}
 use Rattle.meaning.specs.Writing.{fileOf, Lawful}
 use Rattle.meaning.proofs.Results.{bind-case, bind-in, need-case, need-in, found-same}
 use Rattle.meaning.proofs.Suffix.{file-at, length-file}
-use Rattle.meaning.proofs.Places.{places}
+use Rattle.meaning.proofs.Places.{by-test, places}
+use Rattle.meaning.proofs.Off.{read-off, read-no-off}
 use Rattle.meaning.proofs.Unknown.{Unknown, none, some, unknown-out, unknown-in}
 
 -- behind the length field, whatever the first reader gives the second gives too
@@ -68,14 +69,21 @@ module _ (table certificate : List ℕ) where
   unfolding count
   same-count low high p x h e = bind-case (field b 2 p) _ x e λ m m! q. bind-in _ (same-field 2 p m h m!) q
 
-  same-action : (n : ℕ) → Same (action b n) (action c n)
+  same-off : (v n : ℕ) → Same (offMask b v n) (offMask c v n)
+  same-off v n p x h e =
+      by-test (eqb v 3)
+      (λ t. read-off c v n p t ∙ same-mask n p x h (sym (read-off b v n p t) ∙ e))
+      (λ f. read-no-off c v n p f ∙ sym (read-no-off b v n p f) ∙ e)
+
+  same-action : (v n : ℕ) → Same (action b v n) (action c v n)
   unfolding action
-  same-action n p v h e =
-      bind-case (mask b n p) _ v e λ x x! e₁.
-      bind-case (mask b n (p + 8)) _ v e₁ λ y y! e₂.
-      bind-case (mask b n (p + 16)) _ v e₂ λ z z! q.
+  same-action v n p a h e =
+      bind-case (mask b n p) _ a e λ x x! e₁.
+      bind-case (mask b n (p + 8)) _ a e₁ λ y y! e₂.
+      bind-case (mask b n (p + 16)) _ a e₂ λ z z! e₃.
+      bind-case (offMask b v n (p + 24)) _ a e₃ λ o o! q.
       bind-in _ (same-mask n p x h x!) (bind-in _ (same-mask n (p + 8) y (omega arith) y!)
-      (bind-in _ (same-mask n (p + 16) z (omega arith) z!) q))
+      (bind-in _ (same-mask n (p + 16) z (omega arith) z!) (bind-in _ (same-off v n (p + 24) o (omega arith) o!) q)))
 
   same-unknown : (v n s u : ℕ) → Unknown b v n s u → Unknown c v n s u
   same-unknown v n s u (none e z) = none e z
@@ -86,15 +94,16 @@ module _ (table certificate : List ℕ) where
   unfolding readTask
   same-task r e =
       bind-case (field b 1 4) _ r e λ v v! e₁.
-      bind-case (need (eqb v 1 || eqb v 2) 2 4) _ r e₁ λ k k! e₂.
+      bind-case (need (leb 1 v && leb v 3) 2 4) _ r e₁ λ k k! e₂.
       bind-case (field b 1 5) _ r e₂ λ n n! e₃.
       bind-case (need (leb 1 n && leb n 64) 4 5) _ r e₃ λ w w! e₄.
       bind-case (mask b n 6) _ r e₄ λ s s! e₅.
       bind-case (unknownMask b v n s) _ r e₅ λ u u! e₆.
       bind-case (mask b n (goalAt v)) _ r e₆ λ g g! e₇.
-      bind-case (count b 0 256 (actionCountAt v)) _ r e₇ λ m m! e₈.
-      bind-case (items (action b n) (actionSize v) (actionCountAt v + 2) m) _ r e₈ λ xs xs! q.
-      let o = places v in
+      bind-case (offMask b v n (goalAt v + 8)) _ r e₇ λ o o! e₈.
+      bind-case (count b 0 256 (actionCountAt v)) _ r e₈ λ m m! e₉.
+      bind-case (items (action b v n) (actionSize v) (actionCountAt v + 2) m) _ r e₉ λ xs xs! q.
+      let at = places v in
       bind-in _ (same-field 1 4 v (omega arith) v!)
       (bind-in _ k!
       (bind-in _ (same-field 1 5 n (omega arith) n!)
@@ -102,9 +111,10 @@ module _ (table certificate : List ℕ) where
       (bind-in _ (same-mask n 6 s (omega arith) s!)
       (bind-in _ (unknown-in c v n s (same-unknown v n s u (unknown-out b v n s u u!)))
       (bind-in _ (same-mask n (goalAt v) g (omega arith) g!)
+      (bind-in _ (same-off v n (goalAt v + 8) o (omega arith) o!)
       (bind-in _ (same-count 0 256 (actionCountAt v) m (omega arith) m!)
-      (bind-in _ (same-items (action b n) (action c n) (same-action n) (actionSize v) m (actionCountAt v + 2) xs (omega arith) xs!)
-      q))))))))
+      (bind-in _ (same-items (action b v n) (action c v n) (same-action v n) (actionSize v) m (actionCountAt v + 2) xs (omega arith) xs!)
+      q)))))))))
 
   -- a lawful table reads as its task in every file that begins with it
   pub lawful-reads : (t : Task) → Lawful table t → readTask (fileOf table certificate) ≡ found (t, 4 + length table)

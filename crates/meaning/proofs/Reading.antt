@@ -2,7 +2,7 @@
 -- Assumes nothing.
 use mathlib.Core.Path.{_≡_, refl, sym, subst}
 use Prim.Native.Nat.{ℕ, suc, _+_, _*_, _≤_}
-use mathlib.Core.Bool.{_&&_, _||_}
+use mathlib.Core.Bool.{false, _&&_}
 use mathlib.Core.List.{List, [], _∷_}
 use lib.ListN.{length}
 use lib.Dec.{T, eqb, leb, eqb→eq, leb→le}
@@ -14,7 +14,7 @@ use Rattle.meaning.specs.File.{ActionSet, StateSet, Step, File}
 use Rattle.meaning.specs.declared.Limits.{Limits}
 use Rattle.meaning.specs.Limits.{full}
 use Rattle.meaning.specs.Layout.{items, field, count, mask, action, step, actionKinds, stateKinds, entries, readWithin}
-use Rattle.meaning.specs.Layout.{goalAt, actionCountAt, actionSize, afterActions, unknownMask, readTask}
+use Rattle.meaning.specs.Layout.{goalAt, actionCountAt, actionSize, afterActions, unknownMask, offMask, readTask}
 use Rattle.meaning.specs.Layout.{readFile}
 use Rattle.meaning.specs.Writing.{AllFrom, All, FitsAction, FitsTask, FitsVersion, FitsActionSet, FitsStateSet, FitsStep}
 use Rattle.meaning.specs.Writing.{listedStates, Allowed, Fits, FitsSize}
@@ -22,13 +22,19 @@ use Rattle.meaning.proofs.Results.{found-same, bind-case, need-case, an
 use Rattle.meaning.proofs.Numbers.{number-lt}
 use Rattle.meaning.proofs.Again.{field-out}
 use Rattle.meaning.proofs.Unknown.{Unknown, unknown-out, unknown-fits, version-fits}
-use Rattle.meaning.proofs.Given.{Gives, mask-gives, count-gives, action-gives, items-give, action-sets-give, state-sets-give}
+use Rattle.meaning.proofs.Off.{FitsActionOf, none-off}
+use Rattle.meaning.proofs.Given.{Gives, mask-gives, off-gives, count-gives, action-gives, items-give, action-sets-give, state-sets-give}
+
+-- of two properties of each item, each
+each-of : {A : Type 0} (P Q : ℕ → A → Type 0) (i : ℕ) (xs : List A) → AllFrom (λ i x. P i x × Q i x) i xs → AllFrom P i xs × AllFrom Q i xs
+each-of P Q i [] h = (tt, tt)
+each-of P Q i (x ∷ xs) h = let r = each-of P Q (suc i) xs (h .1) in ((h .0 .0, r .0), (h .0 .1, r .1))
 
 -- the parts of a task that is read
 pub record TaskWalked (bytes : List ℕ) (r : Task × ℕ) : Type 0 where
   pub v : ℕ
   pub v! : field bytes 1 4 ≡ found v
-  pub known : T (eqb v 1 || eqb v 2)
+  pub known : T (leb 1 v && leb v 3)
   pub n : ℕ
   pub n! : field bytes 1 5 ≡ found n
   pub some-facts : 1 ≤ n
@@ -39,24 +45,27 @@ pub record TaskWalked (bytes : List ℕ) (r : Task × ℕ) : Type 0 where
   pub u! : Unknown bytes v n s u
   pub g : ℕ
   pub g! : mask bytes n (goalAt v) ≡ found g
+  pub o : ℕ
+  pub o! : offMask bytes v n (goalAt v + 8) ≡ found o
   pub m : ℕ
   pub m! : count bytes 0 256 (actionCountAt v) ≡ found m
   pub acts : List Action
-  pub acts! : items (action bytes n) (actionSize v) (actionCountAt v + 2) m ≡ found acts
-  pub whole : _≡_ {A = Task × ℕ} (record { facts = n; init = s; unknown = u; goal = g; actions = acts }, afterActions v m) r
+  pub acts! : items (action bytes v n) (actionSize v) (actionCountAt v + 2) m ≡ found acts
+  pub whole : _≡_ {A = Task × ℕ} (record { facts = n; init = s; unknown = u; goal = g; off = o; actions = acts }, afterActions v m) r
 
 pub task-walked : (bytes : List ℕ) (r : Task × ℕ) → readTask bytes ≡ found r → TaskWalked bytes r
 unfolding readTask
 task-walked bytes r e =
     bind-case (field bytes 1 4) _ r e λ v v! e₁.
-    need-case (eqb v 1 || eqb v 2) 2 4 _ r e₁ λ known e₂.
+    need-case (leb 1 v && leb v 3) 2 4 _ r e₁ λ known e₂.
     bind-case (field bytes 1 5) _ r e₂ λ n n! e₃.
     need-case (leb 1 n && leb n 64) 4 5 _ r e₃ λ h e₄.
     bind-case (mask bytes n 6) _ r e₄ λ s s! e₅.
     bind-case (unknownMask bytes v n s) _ r e₅ λ u u! e₆.
     bind-case (mask bytes n (goalAt v)) _ r e₆ λ g g! e₇.
-    bind-case (count bytes 0 256 (actionCountAt v)) _ r e₇ λ m m! e₈.
-    bind-case (items (action bytes n) (actionSize v) (actionCountAt v + 2) m) _ r e₈ λ acts acts! q.
+    bind-case (offMask bytes v n (goalAt v + 8)) _ r e₇ λ o o! e₈.
+    bind-case (count bytes 0 256 (actionCountAt v)) _ r e₈ λ m m! e₉.
+    bind-case (items (action bytes v n) (actionSize v) (actionCountAt v + 2) m) _ r e₉ λ acts acts! q.
     let b = and-out (leb 1 n) (leb n 64) h in
     record {
       v = v;
@@ -72,6 +81,8 @@ task-walked bytes r e =
       u! = unknown-out bytes v n s u u!;
       g = g;
       g! = g!;
+      o = o;
+      o! = o!;
       m = m;
       m! = m!;
       acts = acts;
@@ -88,11 +99,14 @@ pub record TaskRead (bytes : List ℕ) (t : Task) (end : ℕ) : Type 0 where
 pub task-read : (bytes : List ℕ) (t : Task) (end : ℕ) → readTask bytes ≡ found (t, end) → TaskRead bytes t end
 task-read bytes t end e =
     let w = task-walked bytes (t, end) e in
-    let h = items-give (FitsAction (w .n)) (action bytes (w .n)) (actionSize (w .v)) (action-gives bytes (w .n)) (w .m) 0 _ (w .acts)
-    (w .acts!) in
+    let v : ℕ = w .v in
+    let n : ℕ = w .n in
+    let h = items-give (FitsActionOf v n) (action bytes v n) (actionSize v) (action-gives bytes v n) (w .m) 0 _ (w .acts) (w .acts!) in
+    let (fit, off) = each-of (λ _. FitsAction n) (λ _ a. eqb v 3 ≡ false → a .off ≡ 0) 0 (w .acts) (h .1) in
+    let o = off-gives bytes v n (goalAt v + 8) (w .o) (w .o!) in
     let u = unknown-fits bytes (w .v) (w .n) (w .s) (w .u!) in
     let i : w .v ≡ number 1 bytes 4 = sym (field-out bytes 1 4 (w .v) (w .v!) .1) in
-    let r : Task = record { facts = w .n; init = w .s; unknown = w .u; goal = w .g; actions = w .acts } in
+    let r : Task = record { facts = w .n; init = w .s; unknown = w .u; goal = w .g; off = w .o; actions = w .acts } in
     subst (λ (x : Task × ℕ). TaskRead bytes (x .0) (x .1)) (w .whole)
     (record {
       fits = record {
@@ -102,10 +116,11 @@ task-read bytes t end e =
         unknown = u .0;
         apart = u .1;
         goal = mask-gives bytes (w .n) (goalAt (w .v)) (w .g) (w .g!);
+        off = o .0;
         few-actions = subst (λ (l : ℕ). l ≤ 256) (sym (h .0)) (count-gives bytes 0 256 _ (w .m) (w .m!) .1);
-        actions = h .1;
+        actions = fit;
       };
-      version = rw (← i) (version-fits bytes (w .v) (w .n) (w .s) r (w .known) (w .u!));
+      version = rw (← i) (version-fits bytes v n (w .s) r (w .known) (w .u!) (none-off v n r o off));
       ends = rw (← i, h .0) refl;
     })
 
@@ -213,11 +228,6 @@ within-walked l bytes f e =
 pub file-walked : (bytes : List ℕ) (f : File) → readFile bytes ≡ found f → Walked full bytes f
 unfolding readFile
 file-walked bytes f e = within-walked full bytes f e
-
--- of two properties of each item, each
-each-of : {A : Type 0} (P Q : ℕ → A → Type 0) (i : ℕ) (xs : List A) → AllFrom (λ i x. P i x × Q i x) i xs → AllFrom P i xs × AllFrom Q i xs
-each-of P Q i [] h = (tt, tt)
-each-of P Q i (x ∷ xs) h = let r = each-of P Q (suc i) xs (h .1) in ((h .0 .0, r .0), (h .0 .1, r .1))
 
 -- what is read is within the limits, with one more property of the steps
 read-with : (l : Limits) (bytes : List ℕ) (Q : Step → Type 0) → Gives Q (step bytes) → (f : File) → readWithin l bytes ≡ found f

@@ -1,6 +1,6 @@
 -- Files that list their explicit states otherwise: what is read where no state is, is the same.
 -- Assumes nothing.
-use mathlib.Core.Path.{_≡_, refl, ap, _∙_}
+use mathlib.Core.Path.{_≡_, refl, sym, ap, _∙_}
 use Prim.Native.Nat.{ℕ, zero, suc, _+_, _-_, _*_, _/_, _≤_}
 use native.Mathlib.Nat.{mul-suc, mul-div-le}
 use native.Mathlib.Omega.{arith}
@@ -14,12 +14,13 @@ use Rattle.meaning.specs.Bytes.{number, inside}
 use Rattle.meaning.specs.File.{either, explicit, horn, twoCnf, basic, complement, intersection, union, progression, regression}
 use Rattle.meaning.specs.Layout.{hornRule, twoCnfRule, items, ascending, field, count, mask, reference, action, clause, step, Kind}
 use Rattle.meaning.specs.Layout.{plain, one, two, clauses, actionKinds, stateKinds, entry, goalAt, actionCountAt, actionSize}
-use Rattle.meaning.specs.Layout.{unknownMask, readTask}
+use Rattle.meaning.specs.Layout.{offSize, offMask, unknownMask, readTask}
 use Rattle.meaning.specs.Structure.{actionSetCount}
 use Rattle.meaning.specs.Relisted.{Relisted}
 use Rattle.meaning.proofs.Results.{bind-same}
 use Rattle.meaning.proofs.Numbered.{then-same, need-same}
-use Rattle.meaning.proofs.Places.{places, after-actions}
+use Rattle.meaning.proofs.Places.{by-test, off-some, places, after-actions}
+use Rattle.meaning.proofs.Off.{read-off, read-no-off}
 use Rattle.meaning.proofs.LayoutFaults.{field-in, count-in}
 use Rattle.meaning.proofs.Breaches.{Tail}
 use Rattle.meaning.proofs.Relisted.{Free, number-same}
@@ -69,10 +70,22 @@ module _ {a b : List ℕ} (r : Relisted a b) (lo hi : ℕ) (free : Free a lo hi)
   unfolding reference
   reference-eq bound p l u = rw (field-eq 2 p l u)
 
-  action-eq : (n : ℕ) → Equal 24 (action a n) (action b n)
+  off-eq : (v n : ℕ) → Equal (offSize v) (offMask a v n) (offMask b v n)
+  off-eq v n p l u =
+      by-test (eqb v 3)
+      (λ t. read-off a v n p t ∙ mask-eq n p l (omega (arith, off-some v t)) ∙ sym (read-off b v n p t))
+      (λ f. read-no-off a v n p f ∙ sym (read-no-off b v n p f))
+
+  action-eq : (v n : ℕ) → Equal (actionSize v) (action a v n) (action b v n)
   unfolding action
-  action-eq n p l u =
-      rw (mask-eq n p l (omega arith), mask-eq n (p + 8) (omega arith) (omega arith), mask-eq n (p + 16) (omega arith) (omega arith))
+  action-eq v n p l u =
+      let o = places v in
+      rw (
+        mask-eq n p l (omega arith),
+        mask-eq n (p + 8) (omega arith) (omega arith),
+        mask-eq n (p + 16) (omega arith) (omega arith),
+        off-eq v n (p + 24) (omega arith) (omega arith),
+      )
 
   clause-eq : (n : ℕ) (rule : ℕ → ℕ → Bool) → Equal 16 (clause a n rule) (clause b n rule)
   unfolding clause
@@ -100,7 +113,7 @@ module _ {a b : List ℕ} (r : Relisted a b) (lo hi : ℕ) (free : Free a lo hi)
       ap (λ x. elim (eqb v 1) [ true ↦ found 0 | false ↦ x >>= λ m. need (eqb (bitAnd s m) 0) 16 14 >>= λ _. found m ]) (mask-eq n 14 l u)
 
   pub task-eq : lo ≤ 4 → actionSetCount a ≤ hi → readTask a ≡ readTask b
-  unfolding readTask actionSetCount actionSize
+  unfolding readTask actionSetCount
   task-eq l u =
       let w : ℕ = number 1 a 4 in
       let o = places w in
@@ -112,9 +125,10 @@ module _ {a b : List ℕ} (r : Relisted a b) (lo hi : ℕ) (free : Free a lo hi)
       bind-same (mask-eq n 6 (omega arith) (omega arith)) λ s.
       bind-same (unknown-eq w n s (omega arith) (omega arith)) λ _.
       bind-same (mask-eq n (goalAt w) (omega arith) (omega arith)) λ _.
-      then-same (count-in 0 30 a 0 256 (actionCountAt w) (omega arith) (omega arith))
+      bind-same (off-eq w n (goalAt w + 8) (omega arith) (omega arith)) λ _.
+      then-same (count-in 0 40 a 0 256 (actionCountAt w) (omega arith) (omega arith))
       (count-eq 0 256 (actionCountAt w) (omega arith) (omega arith))
-      λ m e. bind-same (items-eq 24 (action-eq n) m (actionCountAt w + 2) (omega arith) (let i = e .0 in omega arith)) λ _. refl)
+      λ m e. bind-same (items-eq (actionSize w) (action-eq w n) m (actionCountAt w + 2) (omega arith) (rw (e .0) (omega arith))) λ _. refl)
 
   -- ---- kinds of entry
 

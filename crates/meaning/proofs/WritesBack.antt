@@ -17,7 +17,7 @@ use Rattle.meaning.proofs.Given.{items-give, action-sets-give, state-se
 use Rattle.meaning.proofs.Reading.{task-walked, file-walked}
 use Rattle.meaning.proofs.Unknown.{unknown-again}
 use Rattle.meaning.proofs.Again.{field-out}
-use Rattle.meaning.proofs.Again.{Spans, joined, spans-length, Again, number-spans, byte-again, count-again, mask-again, action-again}
+use Rattle.meaning.proofs.Again.{Spans, joined, spans-length, Again, number-spans, byte-again, count-again, mask-again, off-again, action-again}
 use Rattle.meaning.proofs.Again.{step-again, items-again}
 use Rattle.meaning.proofs.AgainEntries.{action-sets-again, state-sets-again}
 
@@ -39,18 +39,20 @@ module _ (bytes : List ℕ) (h : AreBytes bytes) where
       (items-again bytes write size read again c (p + 2) (p + 2 + size * c) refl xs xs!)
 
   task-again : (r : Task × ℕ) → readTask bytes ≡ found r → Spans bytes 4 (r .1) (writeTask (number 1 bytes 4) (r .0))
-  unfolding writeTask actionCountAt actionSize afterActions
+  unfolding writeTask actionCountAt afterActions
   task-again r e =
       let w = task-walked bytes r e in
       let n : ℕ = w .n in
       let v : ℕ = w .v in
-      let t : Task = record { facts = n; init = w .s; unknown = w .u; goal = w .g; actions = w .acts } in
+      let t : Task = record { facts = n; init = w .s; unknown = w .u; goal = w .g; off = w .o; actions = w .acts } in
       rw (field-out bytes 1 4 v (w .v!) .1)
       (subst (λ (x : Task × ℕ). Spans bytes 4 (x .1) (writeTask v (x .0))) (w .whole)
-      (joined (joined (joined (joined (joined (byte-again bytes h 4 5 refl v (w .v!)) (byte-again bytes h 5 6 refl n (w .n!)))
+      (joined (joined (joined (joined (joined (joined (byte-again bytes h 4 5 refl v (w .v!)) (byte-again bytes h 5 6 refl n (w .n!)))
       (mask-again bytes h n 6 14 refl (w .s) (w .s!))) (unknown-again bytes h v n (w .s) t (w .u!)))
       (mask-again bytes h n (goalAt v) (goalAt v + 8) refl (w .g) (w .g!)))
-      (counted-items writeAction 24 (action bytes n) (action-again bytes h n) 0 256 (goalAt v + 8) (w .m) (w .acts) (w .m!) (w .acts!))))
+      (off-again bytes h v n (goalAt v + 8) (actionCountAt v) refl (w .o) (w .o!)))
+      (counted-items (writeAction v) (actionSize v) (action bytes v n) (action-again bytes h v n) 0 256 (actionCountAt v) (w .m) (w .acts)
+      (w .m!) (w .acts!))))
 
   -- the bytes between the length field and a place that is not before the end
   abbrev Behind : File → Type 0

@@ -5,6 +5,7 @@ use Prim.Native.Nat.{ℕ, suc, _+_, _*_, _≤_}
 use native.Mathlib.Omega.{arith}
 use mathlib.Core.List.{List, [], _∷_, _++_, append-assoc, append-nil}
 use lib.ListN.{length, length-append}
+use mathlib.Core.Bool.{false}
 use lib.Dec.{T, eqb, leb, le→leb, eqb-refl}
 use Rattle.task.specs.Task.{Task}
 use Rattle.task.specs.declared.Action.{Action}
@@ -13,8 +14,8 @@ use Rattle.meaning.specs.Bytes.{bytesOf, number}
 use Rattle.meaning.specs.File.{ActionSet, StateSet, Step, File}
 use Rattle.meaning.specs.declared.Limits.{Limits}
 use Rattle.meaning.specs.Limits.{full}
-use Rattle.meaning.specs.Layout.{action, step, goalAt, actionCountAt, actionSize, afterActions, readTask, readWithin}
-use Rattle.meaning.specs.Writing.{each, writeAction, writeActionSet, writeStateSet, writeStep, counted, writeUnknown, writeTask}
+use Rattle.meaning.specs.Layout.{action, step, goalAt, offSize, actionCountAt, actionSize, afterActions, readTask, readWithin}
+use Rattle.meaning.specs.Writing.{each, writeOff, writeAction, writeActionSet, writeStateSet, writeStep, counted, writeUnknown, writeTask}
 use Rattle.meaning.specs.Writing.{writeCertificate, fileOf, writeFile, AllFrom, FitsAction, FitsTask, FitsVersion, FitsStateSet}
 use Rattle.meaning.specs.Writing.{FitsStep, FitsCertificate, listedStates, Allowed, Fits, FitsSize, Lawful}
 use Rattle.meaning.proofs.Results.{bind-in, need-in, and-in}
@@ -23,36 +24,47 @@ use Rattle.meaning.proofs.Reading.{task-fits}
 use Rattle.meaning.proofs.Suffix.{At, at-next, after-number, byte-back, after-byte, number-back, whole, file-at, length-file}
 use Rattle.meaning.proofs.Prefix.{lawful-reads}
 use Rattle.meaning.proofs.Unknown.{version-known, unknown-back}
-use Rattle.meaning.proofs.Back.{byte-field, count-back, mask-back, action-back, step-back, length-step, length-each, items-back}
+use Rattle.meaning.proofs.Places.{places}
+use Rattle.meaning.proofs.Off.{FitsActionOf, length-off, goal-off, actions-off}
+use Rattle.meaning.proofs.Back.{byte-field, count-back, mask-back, off-back, action-back, step-back, length-step, length-each, items-back}
 use Rattle.meaning.proofs.BackEntries.{action-sets-back, state-sets-back}
 
 -- ---- tasks
 
-length-action : (a : Action) → length (writeAction a) ≡ 24
+length-action : (v : ℕ) (a : Action) → length (writeAction v a) ≡ actionSize v
 unfolding writeAction
-length-action a = simp (length-append, length-bytesOf)
+length-action v a =
+    let e : length (writeAction v a) ≡ 24 + offSize v = simp (length-append, length-bytesOf, length-off) in omega (arith, places v .size)
 
 pub anything : {A : Type 0} (xs : List A) (i : ℕ) → AllFrom (λ _ _. Unit {0}) i xs
 anything [] i = tt
 anything (x ∷ xs) i = (tt, anything xs (suc i))
 
+-- two properties of each item, as one
+both-of : {A : Type 0} (P Q : ℕ → A → Type 0) (i : ℕ) (xs : List A) → AllFrom P i xs → AllFrom Q i xs → AllFrom (λ i x. P i x × Q i x) i xs
+both-of P Q i [] h k = tt
+both-of P Q i (x ∷ xs) h k = ((h .0, k .0), both-of P Q (suc i) xs (h .1) (k .1))
+
 -- wherever a file has the bytes of a task that fits behind its length, it reads as that task
 task-back : (b rest : List ℕ) (v : ℕ) (t : Task) → FitsTask t → FitsVersion v t → At b 4 (writeTask v t ++ rest)
     → (readTask b ≡ found (t, afterActions v (length (t .actions)))) × At b (afterActions v (length (t .actions))) rest
-unfolding readTask writeTask counted actionCountAt actionSize afterActions
+unfolding readTask writeTask counted actionCountAt afterActions
 task-back b rest v t h k w =
     let m : ℕ = length (t .actions) in
     let w₅ = after-byte b 4 v _ w 5 refl in
     let w₆ : At b 6 (bytesOf 8 (t .init)
-    ++ (writeUnknown v t ++ (bytesOf 8 (t .goal) ++ (bytesOf 2 m ++ (each writeAction (t .actions) ++ rest))))) =
+    ++ (writeUnknown v t ++ (bytesOf 8 (t .goal) ++ (writeOff v (t .off) ++ (bytesOf 2 m ++ (each (writeAction v) (t .actions) ++ rest)))))) =
     simp append-assoc at (after-byte b 5 (t .facts)
-    (bytesOf 8 (t .init) ++ writeUnknown v t ++ bytesOf 8 (t .goal) ++ counted writeAction (t .actions) ++ rest) w₅ 6 refl) in
+    (bytesOf 8 (t .init) ++ writeUnknown v t ++ bytesOf 8 (t .goal) ++ writeOff v (t .off) ++ counted (writeAction v) (t .actions) ++ rest)
+    w₅ 6 refl) in
     let w₁₄ = after-number b 6 8 (t .init) _ w₆ 14 refl in
     let (unknown, w₁₅) = unknown-back b _ v t h k w₁₄ in
     let w₂₂ = after-number b (goalAt v) 8 (t .goal) _ w₁₅ (goalAt v + 8) refl in
-    let w₂₄ = after-number b (goalAt v + 8) 2 m _ w₂₂ (goalAt v + 8 + 2) refl in
-    let size : length (each writeAction (t .actions)) ≡ 24 * m =
-    length-each (λ _. Unit {0}) writeAction 24 (λ a _. length-action a) (t .actions) 0 (anything (t .actions) 0) in (
+    let w₂₃ = at-next b (goalAt v + 8) (writeOff v (t .off)) _ w₂₂ (actionCountAt v) (omega (arith, length-off v (t .off))) in
+    let w₂₄ = after-number b (actionCountAt v) 2 m _ w₂₃ (actionCountAt v + 2) refl in
+    let size : length (each (writeAction v) (t .actions)) ≡ actionSize v * m =
+    length-each (λ _. Unit {0}) (writeAction v) (actionSize v) (λ a _. length-action v a) (t .actions) 0 (anything (t .actions) 0) in
+    let fit = both-of (λ _. FitsAction (t .facts)) (λ _ a. eqb v 3 ≡ false → a .off ≡ 0) 0 (t .actions) (h .actions) (actions-off v t k) in (
       bind-in _ (byte-field b v 4 _ w)
           (bind-in _ (need-in _ 2 4 (version-known v t k))
           (bind-in _ (byte-field b (t .facts) 5 _ w₅)
@@ -61,11 +73,12 @@ task-back b rest v t h k w =
           (bind-in _ (mask-back b (t .facts) (h .few-facts) (t .init) (h .init) 6 _ w₆)
           (bind-in _ unknown
           (bind-in _ (mask-back b (t .facts) (h .few-facts) (t .goal) (h .goal) (goalAt v) _ w₁₅)
-          (bind-in _ (count-back b 0 256 (omega arith) m (omega arith, h .few-actions) (goalAt v + 8) _ w₂₂)
-          (bind-in _ (items-back (FitsAction (t .facts)) writeAction 24 (λ a _. length-action a) b (action b (t .facts))
-          (action-back b (t .facts) (h .few-facts)) (t .actions) 0 (h .actions) (goalAt v + 8 + 2) rest w₂₄)
-          refl)))))))),
-      at-next b (goalAt v + 8 + 2) (each writeAction (t .actions)) rest w₂₄ (goalAt v + 8 + 2 + 24 * m) (omega arith),
+          (bind-in _ (off-back b v (t .facts) (h .few-facts) (t .off) (h .off, goal-off v t k) (goalAt v + 8) _ w₂₂)
+          (bind-in _ (count-back b 0 256 (omega arith) m (omega arith, h .few-actions) (actionCountAt v) _ w₂₃)
+          (bind-in _ (items-back (FitsActionOf v (t .facts)) (writeAction v) (actionSize v) (λ a _. length-action v a) b (action b v (t .facts))
+          (action-back b v (t .facts) (h .few-facts)) (t .actions) 0 fit (actionCountAt v + 2) rest w₂₄)
+          refl))))))))),
+      at-next b (actionCountAt v + 2) (each (writeAction v) (t .actions)) rest w₂₄ (actionCountAt v + 2 + actionSize v * m) (omega arith),
     )
 
 -- the bytes of a task that fits are a lawful table
@@ -79,11 +92,6 @@ task-lawful v t h k =
     reads ∙ ap (λ (k : ℕ). found (t, k)) e
 
 -- ---- files
-
--- two properties of each item, as one
-both-of : {A : Type 0} (P Q : ℕ → A → Type 0) (i : ℕ) (xs : List A) → AllFrom P i xs → AllFrom Q i xs → AllFrom (λ i x. P i x × Q i x) i xs
-both-of P Q i [] h k = tt
-both-of P Q i (x ∷ xs) h k = ((h .0, k .0), both-of P Q (suc i) xs (h .1) (k .1))
 
 -- a certificate that stands behind the task is read back
 certificate-back : (l : Limits) (b : List ℕ) (t : Task) (q : ℕ) (es : List ActionSet) (ss : List StateSet) (ks : List Step)

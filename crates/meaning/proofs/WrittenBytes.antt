@@ -6,7 +6,7 @@ use mathlib.Core.Logic.{inl, inr}
 use mathlib.Core.Bool.{Bool, true, false}
 use mathlib.Core.List.{List, [], _∷_, _++_}
 use lib.ListN.{length}
-use lib.Dec.{ltb, eqb, lt→ltb}
+use lib.Dec.{leb, ltb, eqb, leb→le, lt→ltb}
 use Rattle.task.specs.Reach.{every}
 use Rattle.task.proofs.Tests.{and-left, and-right, and-both}
 use Rattle.task.specs.Task.{Task}
@@ -16,9 +16,12 @@ use Rattle.meaning.specs.Bytes.{bytesOf, AreBytes}
 use Rattle.meaning.specs.File.{ActionSet, all, listed, either, empty, init, goal, explicit, horn, twoCnf, StateSet, basic}
 use Rattle.meaning.specs.File.{complement, intersection, union, progression, regression, Step, File, actionKind, basicKind, stateKind}
 use Rattle.meaning.specs.Writing.{each, writeClause, writeEntry, actionBody, basicBody, stateBody, writeActionSet, writeStateSet}
-use Rattle.meaning.specs.Writing.{writeAction, writeStep, counted, writeUnknown, writeTask, writeCertificate, fileOf, writeFile}
+use Rattle.meaning.specs.Writing.{writeOff, writeAction, writeStep, counted, writeUnknown, writeTask, writeCertificate, fileOf, writeFile}
 use Rattle.meaning.specs.Writing.{AllFrom, FitsTask, FitsVersion, FitsStep, Fits}
 use Rattle.meaning.specs.declared.Limits.{Limits}
+use Rattle.meaning.proofs.Places.{by-test}
+use Rattle.meaning.proofs.Unknown.{version-known}
+use Rattle.meaning.proofs.Off.{written-off, written-no-off}
 use Rattle.meaning.proofs.Written.{anything}
 
 -- each number is a byte: of ∷, of ++, of a written number, of items
@@ -105,10 +108,17 @@ certificate-bytes es ss ks i h =
     (bytes-append (bytesOf 2 (length ks)) (each writeStep ks) (bytes-number 2 (length ks))
     (bytes-each FitsStep writeStep bytes-step ks i h))
 
-bytes-action : (a : Action) → AreBytes (writeAction a)
+bytes-off : (v m : ℕ) → AreBytes (writeOff v m)
+unfolding every
+bytes-off v m =
+    by-test (eqb v 3) (λ e. rw (written-off v m e) (bytes-number 8 m)) (λ e. rw (written-no-off v m e) tt)
+
+bytes-action : (v : ℕ) (a : Action) → AreBytes (writeAction v a)
 unfolding writeAction
-bytes-action a = bytes-append (bytesOf 8 (a .pre) ++ bytesOf 8 (a .add)) (bytesOf 8 (a .del)) (two-numbers 8 8 (a .pre) (a .add))
-    (bytes-number 8 (a .del))
+bytes-action v a =
+    bytes-append (bytesOf 8 (a .pre) ++ bytesOf 8 (a .add) ++ bytesOf 8 (a .del)) (writeOff v (a .off))
+    (bytes-append (bytesOf 8 (a .pre) ++ bytesOf 8 (a .add)) (bytesOf 8 (a .del)) (two-numbers 8 8 (a .pre) (a .add))
+    (bytes-number 8 (a .del))) (bytes-off v (a .off))
 
 bytes-unknown : (v : ℕ) (t : Task) → AreBytes (writeUnknown v t)
 unfolding writeUnknown every
@@ -122,14 +132,17 @@ bytes-task : (v : ℕ) (t : Task) → FitsTask t → FitsVersion v t → AreByte
 unfolding writeTask counted
 bytes-task v t h k =
     let few = h .few-facts in
-    let small : v < 256 = elim k [ inl e ↦ omega (arith, e .0) | inr e ↦ omega arith ] in
-    bytes-append (v ∷ t .facts ∷ bytesOf 8 (t .init) ++ writeUnknown v t ++ bytesOf 8 (t .goal))
-    (bytesOf 2 (length (t .actions)) ++ each writeAction (t .actions))
+    let small : v < 256 = omega (arith, leb→le v 3 (and-right (leb 1 v) (leb v 3) (version-known v t k))) in
+    let start : List ℕ = bytesOf 8 (t .init) ++ writeUnknown v t in
+    bytes-append (v ∷ t .facts ∷ start ++ bytesOf 8 (t .goal) ++ writeOff v (t .off))
+    (bytesOf 2 (length (t .actions)) ++ each (writeAction v) (t .actions))
     (byte-more v _ small (byte-more (t .facts) _ (omega arith)
-    (bytes-append (bytesOf 8 (t .init) ++ writeUnknown v t) (bytesOf 8 (t .goal))
-    (bytes-append (bytesOf 8 (t .init)) (writeUnknown v t) (bytes-number 8 (t .init)) (bytes-unknown v t)) (bytes-number 8 (t .goal)))))
-    (bytes-append (bytesOf 2 (length (t .actions))) (each writeAction (t .actions)) (bytes-number 2 (length (t .actions)))
-    (bytes-all writeAction bytes-action (t .actions)))
+    (bytes-append (start ++ bytesOf 8 (t .goal)) (writeOff v (t .off))
+    (bytes-append start (bytesOf 8 (t .goal))
+    (bytes-append (bytesOf 8 (t .init)) (writeUnknown v t) (bytes-number 8 (t .init)) (bytes-unknown v t)) (bytes-number 8 (t .goal)))
+    (bytes-off v (t .off)))))
+    (bytes-append (bytesOf 2 (length (t .actions))) (each (writeAction v) (t .actions)) (bytes-number 2 (length (t .actions)))
+    (bytes-all (writeAction v) (bytes-action v) (t .actions)))
 
 pub file-bytes : (l : Limits) (f : File) → Fits l f → AreBytes (writeFile f)
 unfolding writeFile fileOf

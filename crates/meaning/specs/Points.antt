@@ -465,7 +465,7 @@ VersionTwo =
 -- and a check with a caller's own rule numbers.
 abbrev pub SameAsVersion3 : {R : Type 0} → Limits → (List ℕ → R) → Type 0
 SameAsVersion3 l said =
-    (bytes : List ℕ) (f : File) → readWithin l bytes ≡ found f → FitsSize l (length (writeFile (asVersion3 f)))
+    (bytes : List ℕ) (f : File) → AreBytes bytes → readWithin l bytes ≡ found f → FitsSize l (length (writeFile (asVersion3 f)))
     → said (writeFile (asVersion3 f)) ≡ said bytes
 
 abbrev pub OlderReplies : Type 0
