@@ -33,17 +33,17 @@ use Rattle.meaning.specs.Cases.{word, withLength, eventBytes, tableBytes
 use Rattle.meaning.specs.Cases.{fileBytes, sample, cases, unknownBytes, leaveFile, offTable, offBytes, goalSteps, offFile}
 
 unfoldable pub computed : Unit {0}
-unfolding allOn allOff without actionAt isInit isGoal applies after member every _>>=_ need known bigEndian number inside actionSetAt stateSetAt
-    stepAt actionKind basicKind stateKind first second firstAction secondAction onesIn hornRule twoCnfRule items ascending field count
-    mask reference action clause step upTo plain one two clauses actionKinds stateKinds entry entries goalAt offSize actionCountAt actionSize
-    afterActions unknownMask offMask readTask readWithin readFile allBelow someBelow rounds settled actionNode inActions meets inBasic someAction
-    progressed regressed stateNode inSet statesWithin actionsWithin keep theOnly kindAt child leafNode leaves isBasic isComplement
-    isLiteral literalKind complements others movedLeft movedRight bracket used ofLiterals ofClauses listsInit ofStates permitted shape₁
-    shapeWith shape₂ shape₃ mixed shape₄ statements rules patternKind noLetters _then_ given withLetter standsFor ofKind ofActionKind
-    matchᴬ match matchEntries matchStep matchPremises judgementKind premiseCount allRules ruleAt entriesFit wellFormed checkBy checkStep
-    checkSteps checkFrom checkFile replyTo replyOf checkUnused checkNumbers ruleNumbers ruleFrom ruleMeant rewritten checkRewritten
-    replyNumbered lawfulCount handBack checkRound roundTo roundOf depthNode depth progressionNode hasProgression askable answerTo answerOf
-    twin bytesOf replyWithin above afterEntries actionSetCount stateSetCount stepCount listedAt longLists breaches word withLength
-    eventBytes tableBytes setBytes stepBytes firstSteps allSteps explicit012 fileBytes sample cases unknownBytes leaveFile
+unfolding allOn allOff without actionAt isInit isGoal applies after member every _>>=_ need known bigEndian number inside actionSetAt
+    stateSetAt stepAt actionKind basicKind stateKind first second firstAction secondAction onesIn hornRule twoCnfRule items ascending field
+    count mask reference action clause step upTo plain one two clauses actionKinds stateKinds entry entries goalAt offSize actionCountAt
+    actionSize afterActions unknownMask offMask readTask readWithin readFile allBelow someBelow rounds settled actionNode inActions meets
+    inBasic someAction progressed regressed stateNode inSet statesWithin actionsWithin keep theOnly kindAt child leafNode leaves isBasic
+    isComplement isLiteral literalKind complements others movedLeft movedRight bracket used ofLiterals ofClauses listsInit ofStates
+    permitted shape₁ shapeWith shape₂ shape₃ mixed shape₄ statements rules patternKind noLetters _then_ given withLetter standsFor ofKind
+    ofActionKind matchᴬ match matchEntries matchStep matchPremises judgementKind premiseCount allRules ruleAt entriesFit wellFormed checkBy
+    checkStep checkSteps checkFrom checkFile replyTo replyOf checkUnused checkNumbers ruleNumbers ruleFrom ruleMeant rewritten
+    checkRewritten replyNumbered lawfulCount handBack checkRound roundTo roundOf depthNode depth progressionNode hasProgression askable
+    answerTo answerOf twin bytesOf replyWithin above afterEntries actionSetCount stateSetCount stepCount listedAt longLists breaches word
+    withLength eventBytes tableBytes setBytes stepBytes firstSteps allSteps explicit012 fileBytes sample cases unknownBytes leaveFile
     offTable offBytes goalSteps offFile
 computed = tt

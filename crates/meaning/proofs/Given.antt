@@ -14,8 +14,8 @@ use Rattle.meaning.specs.Result.{Result, found, _>>=_, need, known}
 use Rattle.meaning.specs.Bytes.{number, inside}
 use Rattle.meaning.specs.File.{ActionSet, all, listed, either, Basic, empty, init, goal, explicit, horn, twoCnf, StateSet, basic}
 use Rattle.meaning.specs.File.{complement, intersection, union, progression, regression}
-use Rattle.meaning.specs.Layout.{items, ascending, field, count, mask, reference, offMask, action, clause, Kind, plain, upTo, one, two}
-use Rattle.meaning.specs.Layout.{clauses, actionKinds, stateKinds, hornRule, twoCnfRule, entry, entries}
+use Rattle.meaning.specs.Layout.{items, ascending, field, count, mask, reference, offMask, action, clause, Kind, plain, upTo, one}
+use Rattle.meaning.specs.Layout.{two, clauses, actionKinds, stateKinds, hornRule, twoCnfRule, entry, entries}
 use Rattle.meaning.specs.Writing.{AllFrom, All, Ascending, FitsActionSet, FitsClauses, FitsStateSet, listedStates}
 use Rattle.meaning.proofs.Results.{found-same, bind-case, need-case, known-out, and-out}
 use Rattle.meaning.proofs.Places.{by-test}

@@ -12,8 +12,8 @@ use Rattle.meaning.specs.Result.{Result, found, _>>=_, need}
 use Rattle.meaning.specs.Bytes.{number}
 use Rattle.meaning.specs.declared.Clause.{Clause}
 use Rattle.meaning.specs.File.{Basic, basic}
-use Rattle.meaning.specs.Layout.{items, ascending, field, count, mask, reference, offMask, action, clause, step, Kind, plain, one, two}
-use Rattle.meaning.specs.Layout.{clauses, goalAt, offSize, actionCountAt, actionSize, afterActions, unknownMask, readTask}
+use Rattle.meaning.specs.Layout.{items, ascending, field, count, mask, reference, offMask, action, clause, step, Kind, plain, one}
+use Rattle.meaning.specs.Layout.{two, clauses, goalAt, offSize, actionCountAt, actionSize, afterActions, unknownMask, readTask}
 use Rattle.meaning.specs.Structure.{actionSetCount}
 use Rattle.meaning.specs.Points.{OfLayout}
 use Rattle.meaning.proofs.Results.{and-out}

@@ -17,8 +17,8 @@ use Rattle.meaning.specs.Bytes.{number, inside, AreBytes}
 use Rattle.meaning.specs.declared.Limits.{Limits}
 use Rattle.meaning.specs.Limits.{full}
 use Rattle.meaning.specs.File.{File}
-use Rattle.meaning.specs.Layout.{goalAt, actionCountAt, actionSize, afterActions, field, mask, offSize, unknownMask, offMask, readTask, readWithin}
-use Rattle.meaning.specs.Layout.{readFile}
+use Rattle.meaning.specs.Layout.{goalAt, actionCountAt, actionSize, afterActions, field, mask, offSize, unknownMask, offMask}
+use Rattle.meaning.specs.Layout.{readTask, readWithin, readFile}
 use Rattle.meaning.specs.Writing.{FitsSize}
 use Rattle.meaning.specs.Sets.{inSet}
 use Rattle.meaning.specs.declared.Reply.the-variants.{Refused}

@@ -59,7 +59,8 @@ given-each P i [] h = tt
 given-each P i (x ∷ xs) h = ((λ c. h c .0), given-each P (suc i) xs (λ c. h c .1))
 
 -- but in version 3 its goal and its actions need no fact off
-pub none-off : (v n : ℕ) (t : Task) → FitsOff v n (t .off) → All (λ a. eqb v 3 ≡ false → a .off ≡ 0) (t .actions) → eqb v 3 ≡ false → NoneOff t
+pub none-off : (v n : ℕ) (t : Task) → FitsOff v n (t .off) → All (λ a. eqb v 3 ≡ false → a .off ≡ 0) (t .actions) → eqb v 3 ≡ false
+    → NoneOff t
 none-off v n t h k e = record { goal = h .1 e; actions = each-given (λ a. a .off ≡ 0) 0 (t .actions) k e }
 
 version-off : (v : ℕ) (t : Task) → FitsVersion v t → eqb v 3 ≡ false → NoneOff t

@@ -23,7 +23,8 @@ use Rattle.meaning.proofs.Numbers.{number-lt}
 use Rattle.meaning.proofs.Again.{field-out}
 use Rattle.meaning.proofs.Unknown.{Unknown, unknown-out, unknown-fits, version-fits}
 use Rattle.meaning.proofs.Off.{FitsActionOf, none-off}
-use Rattle.meaning.proofs.Given.{Gives, mask-gives, off-gives, count-gives, action-gives, items-give, action-sets-give, state-sets-give}
+use Rattle.meaning.proofs.Given.{Gives, mask-gives, off-gives, count-gives, action-gives, items-give, action-sets-give}
+use Rattle.meaning.proofs.Given.{state-sets-give}
 
 -- of two properties of each item, each
 each-of : {A : Type 0} (P Q : ℕ → A → Type 0) (i : ℕ) (xs : List A) → AllFrom (λ i x. P i x × Q i x) i xs → AllFrom P i xs × AllFrom Q i xs

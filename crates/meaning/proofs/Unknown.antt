@@ -12,7 +12,7 @@ use lib.Pow.{pow-pos}
 use lib.Dec.{T, leb, eqb, eqb→eq, leb→le}
 use Rattle.task.specs.Task.{Task}
 use Rattle.task.proofs.Tests.{same}
-use Rattle.meaning.specs.Result.{found, need}
+use Rattle.meaning.specs.Result.{found}
 use Rattle.meaning.specs.Bytes.{bytesOf, AreBytes}
 use Rattle.meaning.specs.Layout.{mask, goalAt, unknownMask}
 use Rattle.meaning.specs.Writing.{writeUnknown, FitsTask, FitsVersion, NoneOff}

@@ -1,5 +1,5 @@
--- Files of versions 1 and 2: each is read as its document says, in version 1 the one initial state is the start, and kind 1 gives leave; and
--- where no fact is needed off, the one mask of an action or of the goal tells.
+-- Files of versions 1 and 2: each is read as its document says; in version 1 the one initial state is the start, and kind 1 gives leave.
+-- Where no fact is needed off, the one mask of an action or of the goal tells, and where a fact is in both masks, none is met.
 -- Assumes nothing.
 use mathlib.Core.Path.{_≡_, refl, ap, _∙_, fun-ext}
 use Prim.Native.Nat.{ℕ, _+_}

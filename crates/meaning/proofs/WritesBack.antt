@@ -17,7 +17,8 @@ use Rattle.meaning.proofs.Given.{items-give, action-sets-give, state-se
 use Rattle.meaning.proofs.Reading.{task-walked, file-walked}
 use Rattle.meaning.proofs.Unknown.{unknown-again}
 use Rattle.meaning.proofs.Again.{field-out}
-use Rattle.meaning.proofs.Again.{Spans, joined, spans-length, Again, number-spans, byte-again, count-again, mask-again, off-again, action-again}
+use Rattle.meaning.proofs.Again.{Spans, joined, spans-length, Again, number-spans, byte-again, count-again, mask-again, off-again}
+use Rattle.meaning.proofs.Again.{action-again}
 use Rattle.meaning.proofs.Again.{step-again, items-again}
 use Rattle.meaning.proofs.AgainEntries.{action-sets-again, state-sets-again}
 

@@ -15,8 +15,9 @@ use Rattle.meaning.specs.File.{ActionSet, StateSet, Step, File}
 use Rattle.meaning.specs.declared.Limits.{Limits}
 use Rattle.meaning.specs.Limits.{full}
 use Rattle.meaning.specs.Layout.{action, step, goalAt, offSize, actionCountAt, actionSize, afterActions, readTask, readWithin}
-use Rattle.meaning.specs.Writing.{each, writeOff, writeAction, writeActionSet, writeStateSet, writeStep, counted, writeUnknown, writeTask}
-use Rattle.meaning.specs.Writing.{writeCertificate, fileOf, writeFile, AllFrom, FitsAction, FitsTask, FitsVersion, FitsStateSet}
+use Rattle.meaning.specs.Writing.{each, writeOff, writeAction, writeActionSet, writeStateSet, writeStep, counted, writeUnknown}
+use Rattle.meaning.specs.Writing.{writeTask, writeCertificate, fileOf, writeFile, AllFrom, FitsAction}
+use Rattle.meaning.specs.Writing.{FitsTask, FitsVersion, FitsStateSet}
 use Rattle.meaning.specs.Writing.{FitsStep, FitsCertificate, listedStates, Allowed, Fits, FitsSize, Lawful}
 use Rattle.meaning.proofs.Results.{bind-in, need-in, and-in}
 use Rattle.meaning.proofs.Numbers.{length-bytesOf}
@@ -26,7 +27,8 @@ use Rattle.meaning.proofs.Prefix.{lawful-reads}
 use Rattle.meaning.proofs.Unknown.{version-known, unknown-back}
 use Rattle.meaning.proofs.Places.{places}
 use Rattle.meaning.proofs.Off.{FitsActionOf, length-off, goal-off, actions-off}
-use Rattle.meaning.proofs.Back.{byte-field, count-back, mask-back, off-back, action-back, step-back, length-step, length-each, items-back}
+use Rattle.meaning.proofs.Back.{byte-field, count-back, mask-back, off-back, action-back, step-back, length-step, length-each}
+use Rattle.meaning.proofs.Back.{items-back}
 use Rattle.meaning.proofs.BackEntries.{action-sets-back, state-sets-back}
 
 -- ---- tasks
@@ -52,8 +54,9 @@ unfolding readTask writeTask counted actionCountAt afterActions
 task-back b rest v t h k w =
     let m : ℕ = length (t .actions) in
     let w₅ = after-byte b 4 v _ w 5 refl in
+    let acts : List ℕ = each (writeAction v) (t .actions) in
     let w₆ : At b 6 (bytesOf 8 (t .init)
-    ++ (writeUnknown v t ++ (bytesOf 8 (t .goal) ++ (writeOff v (t .off) ++ (bytesOf 2 m ++ (each (writeAction v) (t .actions) ++ rest)))))) =
+    ++ (writeUnknown v t ++ (bytesOf 8 (t .goal) ++ (writeOff v (t .off) ++ (bytesOf 2 m ++ (acts ++ rest)))))) =
     simp append-assoc at (after-byte b 5 (t .facts)
     (bytesOf 8 (t .init) ++ writeUnknown v t ++ bytesOf 8 (t .goal) ++ writeOff v (t .off) ++ counted (writeAction v) (t .actions) ++ rest)
     w₅ 6 refl) in
@@ -62,9 +65,10 @@ task-back b rest v t h k w =
     let w₂₂ = after-number b (goalAt v) 8 (t .goal) _ w₁₅ (goalAt v + 8) refl in
     let w₂₃ = at-next b (goalAt v + 8) (writeOff v (t .off)) _ w₂₂ (actionCountAt v) (omega (arith, length-off v (t .off))) in
     let w₂₄ = after-number b (actionCountAt v) 2 m _ w₂₃ (actionCountAt v + 2) refl in
-    let size : length (each (writeAction v) (t .actions)) ≡ actionSize v * m =
+    let size : length acts ≡ actionSize v * m =
     length-each (λ _. Unit {0}) (writeAction v) (actionSize v) (λ a _. length-action v a) (t .actions) 0 (anything (t .actions) 0) in
-    let fit = both-of (λ _. FitsAction (t .facts)) (λ _ a. eqb v 3 ≡ false → a .off ≡ 0) 0 (t .actions) (h .actions) (actions-off v t k) in (
+    let n : ℕ = t .facts in
+    let fit = both-of (λ _. FitsAction n) (λ _ a. eqb v 3 ≡ false → a .off ≡ 0) 0 (t .actions) (h .actions) (actions-off v t k) in (
       bind-in _ (byte-field b v 4 _ w)
           (bind-in _ (need-in _ 2 4 (version-known v t k))
           (bind-in _ (byte-field b (t .facts) 5 _ w₅)
@@ -75,10 +79,10 @@ task-back b rest v t h k w =
           (bind-in _ (mask-back b (t .facts) (h .few-facts) (t .goal) (h .goal) (goalAt v) _ w₁₅)
           (bind-in _ (off-back b v (t .facts) (h .few-facts) (t .off) (h .off, goal-off v t k) (goalAt v + 8) _ w₂₂)
           (bind-in _ (count-back b 0 256 (omega arith) m (omega arith, h .few-actions) (actionCountAt v) _ w₂₃)
-          (bind-in _ (items-back (FitsActionOf v (t .facts)) (writeAction v) (actionSize v) (λ a _. length-action v a) b (action b v (t .facts))
-          (action-back b v (t .facts) (h .few-facts)) (t .actions) 0 fit (actionCountAt v + 2) rest w₂₄)
+          (bind-in _ (items-back (FitsActionOf v n) (writeAction v) (actionSize v) (λ a _. length-action v a) b (action b v n)
+          (action-back b v n (h .few-facts)) (t .actions) 0 fit (actionCountAt v + 2) rest w₂₄)
           refl))))))))),
-      at-next b (actionCountAt v + 2) (each (writeAction v) (t .actions)) rest w₂₄ (actionCountAt v + 2 + actionSize v * m) (omega arith),
+      at-next b (actionCountAt v + 2) acts rest w₂₄ (actionCountAt v + 2 + actionSize v * m) (omega arith),
     )
 
 -- the bytes of a task that fits are a lawful table

@@ -2,7 +2,6 @@
 -- Assumes nothing.
 use Prim.Native.Nat.{ℕ, zero, suc, _+_, _/_, _%_, _<_}
 use native.Mathlib.Omega.{arith}
-use mathlib.Core.Logic.{inl, inr}
 use mathlib.Core.Bool.{Bool, true, false}
 use mathlib.Core.List.{List, [], _∷_, _++_}
 use lib.ListN.{length}
@@ -16,8 +15,8 @@ use Rattle.meaning.specs.Bytes.{bytesOf, AreBytes}
 use Rattle.meaning.specs.File.{ActionSet, all, listed, either, empty, init, goal, explicit, horn, twoCnf, StateSet, basic}
 use Rattle.meaning.specs.File.{complement, intersection, union, progression, regression, Step, File, actionKind, basicKind, stateKind}
 use Rattle.meaning.specs.Writing.{each, writeClause, writeEntry, actionBody, basicBody, stateBody, writeActionSet, writeStateSet}
-use Rattle.meaning.specs.Writing.{writeOff, writeAction, writeStep, counted, writeUnknown, writeTask, writeCertificate, fileOf, writeFile}
-use Rattle.meaning.specs.Writing.{AllFrom, FitsTask, FitsVersion, FitsStep, Fits}
+use Rattle.meaning.specs.Writing.{writeOff, writeAction, writeStep, counted, writeUnknown, writeTask, writeCertificate, fileOf}
+use Rattle.meaning.specs.Writing.{writeFile, AllFrom, FitsTask, FitsVersion, FitsStep, Fits}
 use Rattle.meaning.specs.declared.Limits.{Limits}
 use Rattle.meaning.proofs.Places.{by-test}
 use Rattle.meaning.proofs.Unknown.{version-known}

@@ -1,9 +1,11 @@
--- The sample file and the twelve proved cases of document 01, each a change of the sample; files with unknown facts, and with facts needed off.
+-- The sample file and the twelve proved cases of document 01, each a change of the sample; files with unknown facts, and with facts that
+-- are needed off.
 -- Assumes nothing.
 use Prim.Native.Nat.{ℕ, _/_, _%_}
 use mathlib.Core.List.{List, [], _∷_, _++_}
 use lib.ListN.{length}
-use Rattle.meaning.specs.File.{all, empty, init, goal, explicit, basic, complement, intersection, union, progression, regression, File}
+use Rattle.meaning.specs.File.{all, empty, init, goal, explicit, basic, complement, intersection, union, progression, regression}
+use Rattle.meaning.specs.File.{File}
 use Rattle.meaning.specs.declared.Reply.{Reply}
 use Rattle.meaning.specs.declared.Reply.the-variants.{Accepted, Refused}
 

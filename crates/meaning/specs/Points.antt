@@ -293,7 +293,7 @@ abbrev pub SmallIsSafe : Type 0
 SmallIsSafe = (bytes : List ℕ) → replySmall bytes ≡ Accepted → (f : File) × (readFile bytes ≡ found f) × Safe (f .task)
 
 -- A table's bytes and the certain certificate make a file of this length; with 512 states, and 256 actions in a table of version 1
--- (20 bytes and 24 for each action), of version 2 (28 and 24) or of the widest later one (36 and 32), it is within the small limits.
+-- (20 bytes and 24 for each action), of version 2 (28 and 24) or of version 3 (36 and 32), it is within the small limits.
 abbrev pub CertainLength : Type 0
 CertainLength =
     ((table ss : List ℕ) → length (fileOf table (certificateOf ss)) ≡ length table + 8 * length ss + 142)

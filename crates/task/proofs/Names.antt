@@ -1,19 +1,20 @@
 -- Laws of the names `isInit`, `isGoal`, `applies` and `after`: what every other crate knows of them. They are opened in this crate alone.
 -- Assumes nothing.
 use mathlib.Core.Path.{_≡_, refl, ap, ap₂}
-use Prim.Native.Nat.{ℕ, _-_, _^_, _≤_, _<_}
+use Prim.Native.Nat.{ℕ, _-_, _^_, _<_}
 use native.Mathlib.Omega.{arith}
 use native.Mathlib.Decide.{decLt}
 use lib.Bits.{bitAnd, bitOr}
 use lib.Count.{ones}
 use lib.Dec.{T, leb, eqb, eqb→eq}
 use Rattle.task.specs.Facts.{without, onesIn}
-use Rattle.task.specs.Task.{Task, isInit, isGoal, applies, after}
+use Rattle.task.specs.Task.{Task, isInit, isGoal, applies}
 use Rattle.task.specs.Inner.{bit, noAction, endsOf, atInit, fewUnknown, atGoal}
 use Rattle.task.specs.declared.Action.{Action}
 use Rattle.task.specs.declared.Ends.{Ends}
 use Rattle.task.proofs.Tests.{same}
-use Rattle.task.proofs.Bits.{bit-le, bit-none, same-bits, bit-without, without-and, ones-are, AsTold, told-facts, told-of, told-never, told-at-once}
+use Rattle.task.proofs.Bits.{bit-le, bit-none, same-bits, bit-without, without-and, ones-are, AsTold, told-facts, told-of}
+use Rattle.task.proofs.Bits.{told-never, told-at-once}
 
 -- ---- the ends
 
