@@ -54,7 +54,7 @@ wordsOf (TwoCnf x) = At x
 unfoldable pub ownClause : Ends → BasicEntry → ℕ → Clause
 ownClause ends Empty i = record { positive = 0; negative = 0 }
 ownClause ends Init i = factClause (without (ends .init) (ends .unknown)) (2 ^ 64 - 1 - bitOr (ends .init) (ends .unknown)) i
-ownClause ends Goal i = factClause (ends .goal) 0 i
+ownClause ends Goal i = factClause (ends .goal) (ends .off) i
 ownClause ends (Explicit x) i = record { positive = 0; negative = 0 }
 ownClause ends (Horn x) i = record { positive = 0; negative = 0 }
 ownClause ends (TwoCnf x) i = record { positive = 0; negative = 0 }

@@ -111,7 +111,7 @@ fn own_clause(ends: Ends, set: BasicEntry, i: u32) -> Clause
             !(ends.init | ends.unknown),
             i,
         ),
-        BasicEntry::Goal => fact_clause(ends.goal, 0, i),
+        BasicEntry::Goal => fact_clause(ends.goal, ends.off, i),
         BasicEntry::Explicit(_) => no_literal(),
         BasicEntry::Horn(_) => no_literal(),
         BasicEntry::TwoCnf(_) => no_literal(),
