@@ -63,7 +63,7 @@ module _ (P : Clause → Type 0) (r : Assignment) (fits : r .on < 2 ^ 64) (calm 
   -- two-literal: a state that meets the clauses, with what the assignment says put in
   module _ (s : ℕ) (hs : s < 2 ^ 64) (m : Meets P s) where
     with-it : Action
-    with-it = record { pre = 0; add = r .on; del = r .off }
+    with-it = record { pre = 0; add = r .on; del = r .off; off = 0 }
 
     pub overlay : ℕ
     overlay = after with-it s

@@ -3,7 +3,7 @@
 -- Assumes nothing.
 use mathlib.Core.Path.{_≡_, refl, sym, subst, _∙_}
 use mathlib.Core.Logic.{_↔_, inl, inr}
-use Prim.Native.Nat.{ℕ, _+_, _-_, _^_, _≤_, _<_}
+use Prim.Native.Nat.{ℕ, _-_, _^_, _<_}
 use native.Mathlib.Omega.{arith}
 use native.Mathlib.Decide.{decLt}
 use mathlib.Core.Bool.{Bool, true, false, not}
@@ -15,7 +15,7 @@ use Rattle.task.specs.declared.Ends.{Ends}
 use Rattle.task.specs.Facts.{without}
 use Rattle.task.specs.Inner.{bit}
 use Rattle.task.proofs.Tests.{excluded, never, not-of}
-use Rattle.task.proofs.Bits.{bit-le, bit-none, bit-high, bit-not, bit-or, bit-without}
+use Rattle.task.proofs.Bits.{bit-le, bit-none, bit-high, bit-not, bit-or, bit-without, AsTold}
 use Rattle.task.proofs.Names.{at-init-facts, at-init-of, at-goal-facts, at-goal-of}
 use Rattle.meaning.specs.declared.Clause.{Clause}
 use Rattle.meaning.specs.Sets.{meets, someBelow}
@@ -46,10 +46,6 @@ met-cases P s c t p n = let w = met-by s c t in go (w .0) (w .1) (w .2) (w .3)
 none-met : (s : ℕ) → T (meets s (record { positive = 0; negative = 0 })) → ⊥
 none-met s t = met-cases ⊥ s _ t (λ f u v. omega (arith, bit-none f)) (λ f u v. omega (arith, bit-none f))
 
--- the state s has fact f on where `on` has it, and off where `off` has it
-abbrev AsTold : ℕ → ℕ → ℕ → ℕ → Type 0
-AsTold on off s f = (bit f on ≤ bit f s) × (bit f off + bit f s ≤ 1)
-
 fact-met : (on off s i : ℕ) → T (meets s (factClause on off i)) ↔ AsTold on off s i
 unfolding factClause
 fact-met on off s i = (
@@ -66,7 +62,7 @@ fact-met on off s i = (
 
 -- the masks of the task's ends are words
 abbrev pub InWords : Ends → Type 0
-InWords ends = (ends .init < 2 ^ 64) × (ends .unknown < 2 ^ 64) × (ends .goal < 2 ^ 64)
+InWords ends = (ends .init < 2 ^ 64) × (ends .unknown < 2 ^ 64) × (ends .goal < 2 ^ 64) × (ends .off < 2 ^ 64)
 
 module _ (bytes : List ℕ) (ends : Ends) (words : InWords ends) where
   -- the clause of a fact in the initial states: it is as in the start, unless it is unknown
@@ -98,10 +94,13 @@ module _ (bytes : List ℕ) (ends : Ends) (words : InWords ends) where
     ])),
   )
   set-meets Goal u s low = (
-    (λ e i l. fact-met (ends .goal) 0 s i .1 (at-goal-facts ends s e i, omega (arith, bit-none i, bit-le i s))),
+    (λ e i l. fact-met (ends .goal) (ends .off) s i .1 (at-goal-facts ends s e i)),
     (λ e. at-goal-of ends s (λ i. elim (decLt i 64) [
-      | yes l ↦ fact-met (ends .goal) 0 s i .0 (e i l) .0
-      | no l ↦ omega (arith, bit-high 64 i (ends .goal) (words .2) (omega arith))
+      | yes l ↦ fact-met (ends .goal) (ends .off) s i .0 (e i l)
+      | no l ↦ (
+        omega (arith, bit-high 64 i (ends .goal) (words .2) (omega arith)),
+        omega (arith, bit-high 64 i (ends .off) (words .3) (omega arith), bit-le i s),
+      )
     ])),
   )
   set-meets (Explicit x) u s low = absurd u

@@ -1,6 +1,7 @@
--- Where the search starts: the facts that an action needs are on, those above the task's are off. And what it then tells.
+-- Where the search starts: the facts that an action needs on are on, those that it needs off and those above the task's are off. And what
+-- it then tells.
 -- Assumes nothing.
-use Prim.Native.Nat.{ℕ, _-_, _≤_, _<_, _^_}
+use Prim.Native.Nat.{ℕ, _+_, _-_, _≤_, _<_, _^_}
 use mathlib.Core.Path.{_≡_, refl, sym, ap, subst, _∙_}
 use mathlib.Core.Bool.{Bool, true, false, not, true≢false}
 use mathlib.Core.List.{List}
@@ -8,13 +9,13 @@ use native.Mathlib.Omega.{arith}
 use native.Mathlib.Decide.{decLt}
 use lib.ListN.{length}
 use lib.Pow.{pow-mono, pow-pos}
-use lib.Bits.{bitAnd, mask-lt}
+use lib.Bits.{bitAnd, bitOr, mask-lt}
 use lib.Dec.{T}
 use Rattle.task.specs.declared.Action.{Action}
 use Rattle.task.specs.Task.{applies}
 use Rattle.task.specs.Inner.{bit}
 use Rattle.task.proofs.Tests.{not-of}
-use Rattle.task.proofs.Bits.{bit-le, bit-none, bit-high, bit-not, bit-and, same-bits, after-lt}
+use Rattle.task.proofs.Bits.{bit-le, bit-none, bit-high, bit-not, bit-and, bit-or, same-bits, after-lt}
 use Rattle.task.proofs.Names.{applies-facts, applies-of}
 use Rattle.meaning.specs.declared.Clause.{Clause}
 use Rattle.meaning.specs.Sets.{meets}
@@ -71,27 +72,44 @@ below-of n s h =
 -- ---- the clause that fails in the states where the action applies
 
 abbrev pub startClause : ℕ → Action → Clause
-startClause n a = record { positive = 2 ^ 64 - 2 ^ n; negative = a .pre }
+startClause n a = record { positive = bitOr (2 ^ 64 - 2 ^ n) (a .off); negative = a .pre }
 
 module _ (n : ℕ) (hn : n ≤ 64) (a : Action) (s : ℕ) where
+  abbrev high : ℕ
+  high = 2 ^ 64 - 2 ^ n
+
   pub start-fails : s < 2 ^ n → T (applies a s) → T (not (meets s (startClause n a)))
   start-fails l t = not-of (meets s (startClause n a)) (λ m. by (met-by s (startClause n a) m))
     where
       by : (b : Bool) × (f : ℕ) × Has (startClause n a) b f × (bit f s ≡ value b) → ⊥
-      by (true, f, h, v) = omega (arith, bit-high n f s l (on-high n hn f h))
-      by (false, f, h, v) = omega (arith, applies-facts a s t f)
+      by (true, f, h, v) =
+          elim (decLt (bit f (a .off)) 1) [
+            | yes m ↦ omega (arith, bit-high n f s l (on-high n hn f (omega (arith, bit-or f high (a .off)))))
+            | no m ↦ omega (arith, applies-facts a s t f .1)
+          ]
+      by (false, f, h, v) = omega (arith, applies-facts a s t f .0)
 
   pub fails-start : s < 2 ^ 64 → T (not (meets s (startClause n a))) → (s < 2 ^ n) × T (applies a s)
   fails-start l t = (
     below-of n s (λ f k. elim (decLt f 64) [
-      | yes m ↦ fails-by s (startClause n a) t true f (high-on n hn f m k)
+      | yes m ↦ off f (omega (arith, high-on n hn f m k))
       | no m ↦ bit-high 64 f s l (omega arith)
     ]),
-    applies-of a s (λ f. elim (decLt (bit f (a .pre)) 1) [
-      | yes m ↦ omega arith
-      | no m ↦ omega (arith, bit-le f (a .pre), fails-by s (startClause n a) t false f (omega (arith, bit-le f (a .pre))))
-    ]),
+    applies-of a s (λ f. (
+      elim (decLt (bit f (a .pre)) 1) [
+        | yes m ↦ omega arith
+        | no m ↦ omega (arith, bit-le f (a .pre), fails-by s (startClause n a) t false f (omega (arith, bit-le f (a .pre))))
+      ],
+      elim (decLt (bit f (a .off)) 1) [
+        | yes m ↦ omega (arith, bit-le f s)
+        | no m ↦ omega (arith, bit-le f (a .off), off f (omega arith))
+      ],
+    )),
   )
+    where
+      off : (f : ℕ) → 0 < bit f high + bit f (a .off) → bit f s ≡ 0
+      off f m =
+          fails-by s (startClause n a) t true f (omega (arith, bit-or f high (a .off), bit-le f high, bit-le f (a .off)))
 
 -- ---- from the start to the answer
 

@@ -181,7 +181,7 @@ pub fn refuted(
         conflict: false,
     };
     let start = Clause {
-        positive: !all_facts(ends.facts),
+        positive: !all_facts(ends.facts) | a.off,
         negative: a.pre,
     };
     let y = solve(file, left, k, true, nothing, opposite(nothing, start));
