@@ -161,7 +161,8 @@ fn different(index: &Index, x: Span, rows: bool) -> usize
 }
 
 // The first of listed states, by size, from number `from` on and before `to`, in which the action applies and does not lead into other
-// listed states. What it leads to is looked for behind what was found last, and not again where it is the same.
+// listed states. One that needs a fact on and off applies in none; of another, one look at all that it needs tells. What it leads to is
+// looked for behind what was found last, and not again where it is the same.
 fn first_open(
     file: &[u8],
     index: &Index,
@@ -179,12 +180,16 @@ fn first_open(
     if many == 0 {
         return from;
     }
+    if a.pre & a.off != 0 {
+        return to;
+    }
+    let looks = a.pre | a.off;
     let mut near: usize = 0;
     let mut last: u64 = 0;
     let mut i = from;
     while i < to {
         let s = state_in(file, index, x, rows, i);
-        if applies(a, s) {
+        if s & looks == a.pre {
             let t = after(a, s);
             if (near == 0) | (t != last) {
                 let k = find(file, index, into, rows, near, t);
@@ -232,8 +237,8 @@ fn one_shows(
 }
 
 // The first initial state, from d = `from` on, in which the action applies and does not lead into listed states; or the last one, which is
-// not looked at. The initial states are top - d, for every d within the unknown facts: they ascend as d goes down. What the action leads to
-// is looked for behind what was found last.
+// not looked at. The initial states are top - d, for every d within the unknown facts: they ascend as d goes down. Whether the action applies
+// is told as above; what it leads to is looked for behind what was found last.
 fn first_initial(
     file: &[u8],
     index: &Index,
@@ -250,13 +255,17 @@ fn first_initial(
     if many == 0 {
         return from;
     }
+    if a.pre & a.off != 0 {
+        return 0;
+    }
+    let looks = a.pre | a.off;
     let unknown = ends.unknown;
     let top = ends.init | unknown;
     let mut near: usize = 0;
     let mut d = from;
     while d != 0 {
         let s = top - d;
-        if applies(a, s) {
+        if s & looks == a.pre {
             let k = search(file, index, into, rows, near, after(a, s));
             if many <= k {
                 return d;

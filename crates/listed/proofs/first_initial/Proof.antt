@@ -11,16 +11,21 @@ use Rattle.task.specs.Facts.{allOn}
 use Rattle.task.proofs.Tests.{is-true}
 use Rattle.task.proofs.Submasks.{below-within, below-less}
 use Rattle.listed.specs.Search.{topOf, Passed, Closed}
-use Rattle.listed.proofs.InitialLaws.{below-top, none-passed, passed-next}
+use Rattle.listed.proofs.InitialLaws.{none-within, below-top, none-passed, passed-next}
+use Rattle.listed.proofs.ShownLaws.{closed-never, closed-unmet}
 use Rattle.listed.proofs.first_initial.Statement.{statement}
 use Rattle.listed.proofs.first_initial.Tie as tie
 
 abbrev Inv-loop : tie.InvT-loop
-Inv-loop file index from into rows a many unknown top near₀ d₀ near d =
+Inv-loop file index from into rows a many looks unknown top near₀ d₀ near d =
     T (allOn d unknown) × (d ≤ from) × Passed top unknown (Closed file into a) from d
 
 abbrev μ-loop : tie.MeasureT-loop
-μ-loop file index from into rows a many unknown top near₀ d₀ near d = d
+μ-loop file index from into rows a many looks unknown top near₀ d₀ near d = d
+
+-- the start, from the place before the loop
+abbrev start : tie.After-struct-known4 Inv-loop μ-loop → tie.Start Inv-loop μ-loop
+start c = c .before .before .before .before .before .before .before
 
 -- a state is closed
 abbrev IsClosed : tie.Start Inv-loop μ-loop → ℕ → Type 0
@@ -29,31 +34,34 @@ IsClosed c = let a = c .args in Closed (a .file .now) (a .into) (a .a)
 returns : tie.Need-returns Inv-loop μ-loop
 returns c = let s = c .before .before .before in (s .pre .1, le-refl _, none-passed _ _ (IsClosed s) _)
 
+returns-2 : tie.Need-returns-2 Inv-loop μ-loop
+returns-2 c = (none-within _, search needs, λ d w l m. closed-never _ _ _ _ (c .if2 .taken))
+
 loop-holds : tie.Need-loop-holds Inv-loop μ-loop
-loop-holds c = let s = c .before .before .before .before in (s .pre .1, le-refl _, none-passed _ _ (IsClosed s) _)
+loop-holds c = let s = start c in (s .pre .1, le-refl _, none-passed _ _ (IsClosed s) _)
 
 sub-s : tie.Need-sub-s Inv-loop μ-loop
-sub-s c = below-top (c .before .before .before .before .before .before .args .ends) _ (c .before .loop .inv .0)
+sub-s c = below-top (start (c .before .before) .args .ends) _ (c .before .loop .inv .0)
 
 search-requires : tie.Need-search-requires Inv-loop μ-loop
 search-requires c κs =
-    let v = c .before .before .before .before .before .before in
-    let p = v .before .before .before .pre in
-    (p .2 (omega (arith, v .if1 .left)), p .0)
+    let v = c .before .before .before .before .before in
+    let p = start v .pre in
+    (p .2 (omega (arith, v .before .before .before .before .if1 .left)), p .0)
 
-returns-2 : tie.Need-returns-2 Inv-loop μ-loop
-returns-2 c = c .before .before .before .before .before .before .loop .inv
+returns-3 : tie.Need-returns-3 Inv-loop μ-loop
+returns-3 c = c .before .before .before .before .before .before .loop .inv
 
 -- a turn that goes on finds its state closed
-turned : (c : tie.Joined2 Inv-loop μ-loop) → let s = c .before .before .before .before .before .before .before .before in
+turned : (c : tie.Joined3 Inv-loop μ-loop) → let s = start (c .before .before .before .before) in
     IsClosed s (topOf (s .args .ends) - c .before .before .before .loop .d)
 turned c =
-    elim (c .if2 .came) [
+    elim (c .if3 .came) [
       | inl w ↦
           let k : ℕ = w .2 .result in
-          let n : ℕ = c .before .before .before .before .before .before .before .before .args .into .count in
+          let n : ℕ = start (c .before .before .before .before) .args .into .count in
           inr (rw (w .1 .ensures) at (sym (w .2 .ensures) ∙ is-true (ltb k n) (lt→ltb k n (omega (arith, w .3 .left)))))
-      | inr w ↦ inl (sym (c .before .applies .ensures) ∙ w .0 .left)
+      | inr w ↦ closed-unmet _ _ _ _ (c .before .before .before .before .before .before .if2 .left) (w .0 .left)
     ]
 
 loop-less : tie.Need-loop-less Inv-loop μ-loop
@@ -62,15 +70,15 @@ loop-less c = below-less _ _ (omega (arith, c .before .before .loop-test .taken)
 loop-again : tie.Need-loop-again Inv-loop μ-loop
 loop-again c =
     let v = c .before .before .before .loop in
-    let s = c .before .before .before .before .before .before .before .before in
+    let s = start (c .before .before .before .before) in
     let u : ℕ = s .args .ends .unknown in (
       below-within u (v .d),
       omega (arith, v .inv .1, loop-less c),
       passed-next _ u (IsClosed s) _ (v .d) (v .inv .0) (v .inv .2) (turned c),
     )
 
-returns-3 : tie.Need-returns-3 Inv-loop μ-loop
-returns-3 c = c .before .loop .inv
+returns-4 : tie.Need-returns-4 Inv-loop μ-loop
+returns-4 c = c .before .loop .inv
 
 pub first-initial-spec : {M : Type 1} → statement M
 first-initial-spec =
@@ -80,14 +88,14 @@ first-initial-spec =
     μ-loop
     (λ c. search needs)
     returns
+    returns-2
     loop-holds
     sub-s
     (λ c κs. search needs)
-    (λ c κs. search needs)
     search-requires
-    returns-2
+    returns-3
     (λ c. search needs)
     (λ c. search needs)
     loop-less
     loop-again
-    returns-3)
+    returns-4)
