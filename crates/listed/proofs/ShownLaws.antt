@@ -16,7 +16,7 @@ use Rattle.task.specs.declared.Ends.{Ends}
 use Rattle.task.specs.Task.{applies, after}
 use Rattle.task.specs.Reach.{member}
 use Rattle.task.proofs.Bits.{no-change}
-use Rattle.task.proofs.Names.{applies-never, applies-at-once}
+use Rattle.task.proofs.Names.{applies-never}
 use Rattle.task.proofs.Tests.{and-left, and-right, and-both, both-ways, or-cases, or-left, or-right, excluded}
 use Rattle.task.proofs.Tests.{holds, is-false, never, same, member-none}
 use Rattle.bytes.specs.Numbers.{numberAt}
@@ -100,18 +100,9 @@ module _ (bytes : List ℕ) (ends : Ends) (a : Action) (left : List ℕ) (m : �
       let n = all-at r (λ j. not (holdsOne bytes ends s (after a s) (leafIn right j))) h 0 l in
       never (member (after a s) (statesAt bytes (p .at) (p .count))) t (rw (k, asked-after f) at n)))
 
--- ---- states that are passed over
-
-module _ (bytes : List ℕ) (p : Span) (a : Action) (s : ℕ) where
-  -- an action that needs a fact on and off applies in none
-  pub closed-never : (bitAnd (a .pre) (a .off) ≡ 0 → ⊥) → Closed bytes p a s
-  closed-never n = inl (is-false (applies a s) (applies-never a s (pos-of-ne-zero n)))
-
-  -- another one does not where what it needs is not met
-  pub closed-unmet : bitAnd (a .pre) (a .off) ≡ 0 → (bitAnd s (bitOr (a .pre) (a .off)) ≡ a .pre → ⊥) → Closed bytes p a s
-  closed-unmet z n =
-      let looked = eqb (bitAnd s (bitOr (a .pre) (a .off))) (a .pre) in
-      inl (sym (applies-at-once a s z) ∙ is-false looked (λ t. n (eqb→eq _ (a .pre) t)))
+-- no state is left open by an action that needs a fact on and off
+pub closed-never : (bytes : List ℕ) (p : Span) (a : Action) (s : ℕ) → (bitAnd (a .pre) (a .off) ≡ 0 → ⊥) → Closed bytes p a s
+closed-never bytes p a s n = inl (is-false (applies a s) (applies-never a s (pos-of-ne-zero n)))
 
 -- the states of the first right leaf are in order, and one that leads to them is not shown
 module _ (bytes : List ℕ) (right : List ℕ) (r : ℕ) (a : Action) (p : Span) where

@@ -17,9 +17,11 @@ ghost use mathlib.Core.Path.{_≡_};
 ghost use mathlib.Core.Logic.{_↔_};
 ghost use Prim.Native.Nat.{ℕ, _+_, _*_, _≤_, _<_};
 ghost use mathlib.Core.Bool.{not, _||_};
+ghost use lib.Bits.{bitAnd};
 ghost use lib.ListN.{length};
 ghost use lib.Dec.{T, eqb};
 ghost use Rattle.task.specs.Facts.{allOn};
+ghost use Rattle.task.specs.Task.{applies};
 ghost use Rattle.meaning.specs.Sets.{allBelow, someBelow};
 ghost use Rattle.certificate.specs.Rows.{byRows, stateIn, InOrder};
 ghost use Rattle.leaves.specs.Leaves.{leafIn, leavesIn};
@@ -160,9 +162,17 @@ fn different(index: &Index, x: Span, rows: bool) -> usize
     hi + 1
 }
 
+// Whether an action that needs no fact both on and off applies in a state: one look at all that it needs tells.
+fn applies_at_once(a: Action, s: u64) -> bool
+    requires { ⌜ bitAnd (a .pre) (a .off) ≡ 0 ⌝ }
+    ensures { λ b. ⌜ b ≡ applies a s ⌝ }
+{
+    s & (a.pre | a.off) == a.pre
+}
+
 // The first of listed states, by size, from number `from` on and before `to`, in which the action applies and does not lead into other
-// listed states. One that needs a fact on and off applies in none; of another, one look at all that it needs tells. What it leads to is
-// looked for behind what was found last, and not again where it is the same.
+// listed states. One that needs a fact both on and off applies in none. What it leads to is looked for behind what was found last, and not
+// again where it is the same.
 fn first_open(
     file: &[u8],
     index: &Index,
@@ -183,13 +193,12 @@ fn first_open(
     if a.pre & a.off != 0 {
         return to;
     }
-    let looks = a.pre | a.off;
     let mut near: usize = 0;
     let mut last: u64 = 0;
     let mut i = from;
     while i < to {
         let s = state_in(file, index, x, rows, i);
-        if s & looks == a.pre {
+        if applies_at_once(a, s) {
             let t = after(a, s);
             if (near == 0) | (t != last) {
                 let k = find(file, index, into, rows, near, t);
@@ -237,8 +246,8 @@ fn one_shows(
 }
 
 // The first initial state, from d = `from` on, in which the action applies and does not lead into listed states; or the last one, which is
-// not looked at. The initial states are top - d, for every d within the unknown facts: they ascend as d goes down. Whether the action applies
-// is told as above; what it leads to is looked for behind what was found last.
+// not looked at. The initial states are top - d, for every d within the unknown facts: they ascend as d goes down. What the action leads to
+// is looked for behind what was found last.
 fn first_initial(
     file: &[u8],
     index: &Index,
@@ -258,14 +267,13 @@ fn first_initial(
     if a.pre & a.off != 0 {
         return 0;
     }
-    let looks = a.pre | a.off;
     let unknown = ends.unknown;
     let top = ends.init | unknown;
     let mut near: usize = 0;
     let mut d = from;
     while d != 0 {
         let s = top - d;
-        if s & looks == a.pre {
+        if applies_at_once(a, s) {
             let k = search(file, index, into, rows, near, after(a, s));
             if many <= k {
                 return d;

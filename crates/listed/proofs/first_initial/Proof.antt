@@ -12,20 +12,20 @@ use Rattle.task.proofs.Tests.{is-true}
 use Rattle.task.proofs.Submasks.{below-within, below-less}
 use Rattle.listed.specs.Search.{topOf, Passed, Closed}
 use Rattle.listed.proofs.InitialLaws.{none-within, below-top, none-passed, passed-next}
-use Rattle.listed.proofs.ShownLaws.{closed-never, closed-unmet}
+use Rattle.listed.proofs.ShownLaws.{closed-never}
 use Rattle.listed.proofs.first_initial.Statement.{statement}
 use Rattle.listed.proofs.first_initial.Tie as tie
 
 abbrev Inv-loop : tie.InvT-loop
-Inv-loop file index from into rows a many looks unknown top near₀ d₀ near d =
+Inv-loop file index from into rows a many unknown top near₀ d₀ near d =
     T (allOn d unknown) × (d ≤ from) × Passed top unknown (Closed file into a) from d
 
 abbrev μ-loop : tie.MeasureT-loop
-μ-loop file index from into rows a many looks unknown top near₀ d₀ near d = d
+μ-loop file index from into rows a many unknown top near₀ d₀ near d = d
 
 -- the start, from the place before the loop
-abbrev start : tie.After-struct-known4 Inv-loop μ-loop → tie.Start Inv-loop μ-loop
-start c = c .before .before .before .before .before .before .before
+abbrev start : tie.After-struct-known3 Inv-loop μ-loop → tie.Start Inv-loop μ-loop
+start c = c .before .before .before .before .before .before
 
 -- a state is closed
 abbrev IsClosed : tie.Start Inv-loop μ-loop → ℕ → Type 0
@@ -47,7 +47,7 @@ search-requires : tie.Need-search-requires Inv-loop μ-loop
 search-requires c κs =
     let v = c .before .before .before .before .before in
     let p = start v .pre in
-    (p .2 (omega (arith, v .before .before .before .before .if1 .left)), p .0)
+    (p .2 (omega (arith, v .before .before .before .if1 .left)), p .0)
 
 returns-3 : tie.Need-returns-3 Inv-loop μ-loop
 returns-3 c = c .before .before .before .before .before .before .loop .inv
@@ -61,7 +61,7 @@ turned c =
           let k : ℕ = w .2 .result in
           let n : ℕ = start (c .before .before .before .before) .args .into .count in
           inr (rw (w .1 .ensures) at (sym (w .2 .ensures) ∙ is-true (ltb k n) (lt→ltb k n (omega (arith, w .3 .left)))))
-      | inr w ↦ closed-unmet _ _ _ _ (c .before .before .before .before .before .before .if2 .left) (w .0 .left)
+      | inr w ↦ inl (sym (c .before .applies-at-once .ensures) ∙ w .0 .left)
     ]
 
 loop-less : tie.Need-loop-less Inv-loop μ-loop
@@ -91,6 +91,7 @@ first-initial-spec =
     returns-2
     loop-holds
     sub-s
+    (λ c κs. c .before .before .before .if2 .left)
     (λ c κs. search needs)
     search-requires
     returns-3

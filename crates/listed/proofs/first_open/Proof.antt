@@ -14,21 +14,21 @@ use Rattle.certificate.specs.Rows.{stateIn}
 use Rattle.leaves.specs.Holds.{statesAt}
 use Rattle.listed.specs.Search.{Closed}
 use Rattle.membership.proofs.SearchLaws.{from-more}
-use Rattle.listed.proofs.ShownLaws.{closed-never, closed-unmet, same-again}
+use Rattle.listed.proofs.ShownLaws.{closed-never, same-again}
 use Rattle.listed.proofs.first_open.Statement.{statement}
 use Rattle.listed.proofs.first_open.Tie as tie
 
 abbrev Inv-loop : tie.InvT-loop
-Inv-loop file index x from to into rows a many looks near₀ last₀ i₀ near last i =
+Inv-loop file index x from to into rows a many near₀ last₀ i₀ near last i =
     (i ≤ to) × (from ≤ i) × ((k : ℕ) → from ≤ k → k < i → Closed file into a (stateIn file index x k))
     × ((near ≡ 0) ⊎ (member last (statesAt file (into .at) (into .count)) ≡ true))
 
 abbrev μ-loop : tie.MeasureT-loop
-μ-loop file index x from to into rows a many looks near₀ last₀ i₀ near last i = to - i
+μ-loop file index x from to into rows a many near₀ last₀ i₀ near last i = to - i
 
 -- the start, from the place before the loop
-abbrev start : tie.After-struct-known3 Inv-loop μ-loop → tie.Start Inv-loop μ-loop
-start c = c .before .before .before .before .before .before
+abbrev start : tie.Else2 Inv-loop μ-loop → tie.Start Inv-loop μ-loop
+start c = c .before .before .before .before .before
 
 returns : tie.Need-returns Inv-loop μ-loop
 returns c = let h = c .before .before .before .pre .3 in (search needs, search needs, λ k l h. absurd (omega arith))
@@ -59,9 +59,8 @@ Turned c =
 
 turned : (c : tie.Joined3 Inv-loop μ-loop) → Turned c
 turned c =
-    let begun = c .before .before .before .before .before in
     let v = c .before .before .before .before .loop in
-    let a = start begun .args in
+    let a = start (c .before .before .before .before .before) .args in
     let In : ℕ → Type 0 = λ t. member t (statesAt (a .file .now) (a .into .at) (a .into .count)) ≡ true in
     elim (c .if3 .came) [
       | inl w ↦
@@ -74,7 +73,7 @@ turned c =
           let h : In (v .last) = elim (v .inv .3) [ inl e ↦ absurd (z .0 e) | inr m ↦ m ] in
           (inr (rw (w .1 .ensures) at (subst In (sym (z .1)) h)), inr (subst In (sym (w .4)) h))
       | inr (inr w) ↦ (
-        closed-unmet _ _ _ _ (begun .before .if2 .left) (w .0 .left),
+        inl (sym (c .before .applies-at-once .ensures) ∙ w .0 .left),
         elim (v .inv .3) [ inl e ↦ inl (w .1 ∙ e) | inr m ↦ inr (subst In (sym (w .2)) m) ],
       )
     ]
@@ -104,6 +103,7 @@ first-open-spec =
     returns-2
     loop-holds
     state-in-requires
+    (λ c κs. c .before .before .before .if2 .left)
     (λ c κs. search needs)
     find-requires
     returns-3
