@@ -1,17 +1,20 @@
 -- `versions::after_actions` meets its contract.
 -- Assumes nothing.
-use mathlib.Core.Path.{_≡_, ap, _∙_}
-use Prim.Native.Nat.{ℕ, _*_}
+use mathlib.Core.Path.{ap}
+use Prim.Native.Nat.{ℕ, _*_, _≤_}
+use native.Mathlib.Nat.{mul-le-mul-right}
 use borrow.Author.Needs.{needs}
 use native.Mathlib.Omega.{arith}
 use Rattle.meaning.proofs.Places.{places, after-actions}
 use Rattle.versions.proofs.after_actions.Statement.{statement}
 use Rattle.versions.proofs.after_actions.Tie as tie
 
--- so many bytes have all actions together
-together : (c : tie.After-action-size) → let n = c .before .before .args .count in c .action-size .result * n ≡ 24 * n
+-- all actions together have at most so many bytes
+together : (c : tie.After-action-size) → let n = c .before .before .args .count in c .action-size .result * n ≤ 32 * n
 together c =
-    let a = c .before .before .args in ap (λ (k : ℕ). k * a .count) (c .action-size .ensures ∙ places (a .version) .size)
+    let a = c .before .before .args in
+    let o = places (a .version) in
+    mul-le-mul-right (a .count) (omega (arith, c .action-size .ensures))
 
 add-result : tie.Need-add-result
 add-result c = let o = places (c .before .args .version) in record { fits = omega (arith, c .action-count-at .ensures) }
