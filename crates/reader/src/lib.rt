@@ -74,9 +74,10 @@ pub fn entry_head(file: &[u8], place: u32) -> EntryHead
     EntryHead { len, kind }
 }
 
-// The head of the task, whose goal's mask stands `span` bytes after the initial state's: one reader walks on from each field to the next.
-pub fn task_head(file: &[u8], span: u8) -> TaskHead
-    ensures { λ h. ⌜ h ≡ taskHeadAt (now (file .entry)) span ⌝ }
+// The head of the task, whose goal's mask stands `span` bytes after the initial state's and has `off` bytes between it and the count of
+// actions: one reader walks on from each field to the next.
+pub fn task_head(file: &[u8], span: u8, off: u8) -> TaskHead
+    ensures { λ h. ⌜ h ≡ taskHeadAt (now (file .entry)) span off ⌝ }
 {
     let mut r = reader_at(file, 5);
     let facts = byte(r);
@@ -85,6 +86,7 @@ pub fn task_head(file: &[u8], span: u8) -> TaskHead
     r = past(r, span as usize);
     let goal = word(r);
     r = past(r, 8);
+    r = past(r, off as usize);
     let actions = half(r);
     TaskHead {
         facts,
