@@ -1,19 +1,21 @@
 -- Items one after the other, with their places: what is read as item i stands `size * i` bytes after the first.
 -- Assumes nothing.
-use mathlib.Core.Path.{_≡_, refl, ap, _∙_, subst}
+use mathlib.Core.Path.{_≡_, refl, sym, ap, _∙_, subst}
 use Prim.Native.Nat.{ℕ, zero, suc, _+_, _*_, _^_, _≤_, _<_}
 use native.Mathlib.Nat.{mul-suc}
 use native.Mathlib.Omega.{arith}
 use mathlib.Core.Bool.{Bool, _&&_}
 use mathlib.Core.List.{List, _∷_}
 use lib.ListN.{length, getD}
-use lib.Dec.{leb, ltb, leb→le}
+use lib.Dec.{eqb, leb, ltb, leb→le}
 use Rattle.meaning.specs.Result.{Result, found}
 use Rattle.meaning.specs.Bytes.{inside}
-use Rattle.meaning.specs.Layout.{items, ascending, field, count, mask, reference, action, clause, step}
+use Rattle.meaning.specs.Layout.{items, ascending, actionSize, field, count, mask, reference, offMask, action, clause, step}
 use Rattle.bytes.specs.Numbers.{numberAt, clauseAt}
-use Rattle.certificate.specs.Views.{actionIn, stepRead}
+use Rattle.certificate.specs.Views.{offIn, actionIn, stepRead}
 use Rattle.meaning.proofs.Results.{found-same, bind-case, bind-in, need-case}
+use Rattle.meaning.proofs.Places.{by-test, places, off-none, off-some}
+use Rattle.meaning.proofs.Off.{read-off, read-no-off}
 use Rattle.bytes.proofs.ByteLaws.{number-in}
 
 -- the items stand from place p on, `size` bytes each, all within the file
@@ -98,16 +100,33 @@ module _ (bytes : List ℕ) where
       need-case (leb low m && leb m high) 4 p _ x e₁ λ _ q.
       let h = field-stands 2 p m m! in (h .0, h .1 ∙ found-same q)
 
-  pub action-stands : (n : ℕ) → Stands bytes 24 (actionIn bytes) (action bytes n)
+  -- what an action at place p needs off, which ends it
+  off-stands : (v n p d : ℕ) → p + 24 ≤ length bytes → offMask bytes v n (p + 24) ≡ found d
+      → (p + actionSize v ≤ length bytes) × (offIn bytes (actionSize v) p ≡ d)
+  unfolding offIn
+  off-stands v n p d l e =
+      let o = places v in
+      by-test (eqb v 3)
+      (λ t.
+      let s : actionSize v ≡ 32 = omega (arith, off-some v t) in
+      let h = mask-stands n (p + 24) d (sym (read-off bytes v n (p + 24) t) ∙ e) in
+      rw s (omega (arith, h .0), h .1))
+      (λ f.
+      let s : actionSize v ≡ 24 = omega (arith, off-none v f) in
+      rw s (l, found-same (sym (read-no-off bytes v n (p + 24) f) ∙ e)))
+
+  pub action-stands : (v n : ℕ) → Stands bytes (actionSize v) (actionIn bytes (actionSize v)) (action bytes v n)
   unfolding action actionIn
-  action-stands n p x e =
+  action-stands v n p x e =
       bind-case (mask bytes n p) _ x e λ a a! e₁.
       bind-case (mask bytes n (p + 8)) _ x e₁ λ b b! e₂.
-      bind-case (mask bytes n (p + 16)) _ x e₂ λ c c! q.
-      let u = mask-stands n p a a! in
-      let v = mask-stands n (p + 8) b b! in
-      let w = mask-stands n (p + 16) c c! in
-      (omega arith, cc)
+      bind-case (mask bytes n (p + 16)) _ x e₂ λ c c! e₃.
+      bind-case (offMask bytes v n (p + 24)) _ x e₃ λ d d! q.
+      let s = mask-stands n p a a! in
+      let t = mask-stands n (p + 8) b b! in
+      let u = mask-stands n (p + 16) c c! in
+      let w = off-stands v n p d (omega arith) d! in
+      (w .0, cc)
 
   pub clause-stands : (n : ℕ) (rule : ℕ → ℕ → Bool) → Stands bytes 16 (clauseAt bytes) (clause bytes n rule)
   unfolding clause clauseAt

@@ -65,11 +65,11 @@ module _ (bytes : List ℕ) (r : IsRead bytes) where
   }
 
   pub read-action : (i : ℕ) → i < length (decoded bytes .task .actions)
-      → actionIn bytes (actionsIn (decoded bytes) .at + actionsIn (decoded bytes) .size * i) ≡ actionAt (decoded bytes .task) i
+      → let x = actionsIn (decoded bytes) in actionIn bytes (x .size) (x .at + x .size * i) ≡ actionAt (decoded bytes .task) i
   read-action i l = action-at bytes (decoded bytes) r i l
 
   pub read-no-action : (i : ℕ) → length (decoded bytes .task .actions) ≤ i
-      → record { pre = 0; add = 0; del = 0 } ≡ actionAt (decoded bytes .task) i
+      → record { pre = 0; add = 0; del = 0; off = 0 } ≡ actionAt (decoded bytes .task) i
   unfolding actionAt
   read-no-action i l = sym (past (decoded bytes .task .actions) i _ l)
 

@@ -91,18 +91,17 @@ module _ {A : Type 0} (bytes : List ℕ) (S : ℕ → A → Type 0) where
 record TaskStands (bytes : List ℕ) (v : ℕ) (t : Task) (end : ℕ) : Type 0 where
   end! : end ≡ afterActions v (length (t .actions))
   count : numberAt 2 bytes (actionCountAt v) ≡ length (t .actions)
-  actions : Items bytes 24 (actionIn bytes) (actionCountAt v + 2) (t .actions)
+  actions : Items bytes (actionSize v) (actionIn bytes (actionSize v)) (actionCountAt v + 2) (t .actions)
   inside : 5 ≤ length bytes
 
 task-stands : (bytes : List ℕ) (r : Task × ℕ) → readTask bytes ≡ found r → TaskStands bytes (number 1 bytes 4) (r .0) (r .1)
-unfolding actionSize
 task-stands bytes r e =
     let w = task-walked bytes r e in
     let v : ℕ = w .v in
     let o = field-out bytes 1 4 v (w .v!) in
     let c = count-stands bytes 0 256 (actionCountAt v) (w .m) (w .m!) in
-    let h = items-stand bytes 24 (actionIn bytes) (action bytes (w .n)) (action-stands bytes (w .n)) (w .m) (actionCountAt v + 2) (w .acts)
-    (c .0) (w .acts!) in
+    let h = items-stand bytes (actionSize v) (actionIn bytes (actionSize v)) (action bytes v (w .n)) (action-stands bytes v (w .n)) (w .m)
+    (actionCountAt v + 2) (w .acts) (c .0) (w .acts!) in
     subst (λ (x : Task × ℕ). TaskStands bytes (number 1 bytes 4) (x .0) (x .1)) (w .whole)
     (rw (o .1)
     (record { end! = ap (afterActions v) (sym (h .0)); count = c .1 ∙ sym (h .0); actions = h .1; inside = o .0 }))
@@ -112,7 +111,7 @@ pub record Parts (bytes : List ℕ) (f : File) : Type 0 where
   pub short : length bytes ≤ 65536
   pub version : numberAt 1 bytes 4 ≡ f .version
   pub action-count : numberAt 2 bytes (actionCountAt (f .version)) ≡ length (f .task .actions)
-  pub actions : Items bytes 24 (actionIn bytes) (actionCountAt (f .version) + 2) (f .task .actions)
+  pub actions : let s = actionSize (f .version) in Items bytes s (actionIn bytes s) (actionCountAt (f .version) + 2) (f .task .actions)
   pub actionSets : Entries bytes (ActionSetStands bytes) (placesOf bytes f .«action_sets_at») (f .actionSets)
   pub stateSets : Entries bytes (StateSetStands bytes) (placesOf bytes f .«state_sets_at») (f .stateSets)
   pub steps : Items bytes 12 (stepRead bytes) (placesOf bytes f .«steps_at») (f .steps)

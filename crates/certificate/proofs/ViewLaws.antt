@@ -10,7 +10,7 @@ use Rattle.task.specs.Inner.{endsOf}
 use Rattle.certificate.specs.declared.Places.{Places}
 use Rattle.meaning.specs.Result.{found}
 use Rattle.meaning.specs.File.{all, basic, empty, File, actionSetAt, stateSetAt, stepAt}
-use Rattle.meaning.specs.Layout.{actionCountAt, actionSize, afterActions, readFile}
+use Rattle.meaning.specs.Layout.{actionCountAt, afterActions, readFile}
 use Rattle.bytes.specs.Numbers.{numberAt}
 use Rattle.certificate.specs.Views.{entryPlace, placesOf, actionsIn, actionIn, stepRead}
 use Rattle.certificate.specs.Index.{capped, statePlace, actionPlace, Table}
@@ -75,8 +75,8 @@ module _ (bytes : List ℕ) (f : File) (r : readFile bytes ≡ found f) where
 
   -- action i is the one that stands so many bytes for each before it behind the count
   pub action-at : (i : ℕ) → i < length (f .task .actions)
-      → actionIn bytes (actionsIn f .at + actionsIn f .size * i) ≡ actionAt (f .task) i
-  unfolding actionAt actionSize actionsIn
+      → actionIn bytes (actionsIn f .size) (actionsIn f .at + actionsIn f .size * i) ≡ actionAt (f .task) i
+  unfolding actionAt actionsIn
   action-at i l = parts .actions .here _ i l
 
   pub version-at : numberAt 1 bytes 4 ≡ f .version

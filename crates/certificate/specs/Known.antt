@@ -16,7 +16,7 @@ use Rattle.certificate.specs.Rows.{statesOf, InOrder}
 unfoldable pub readOr : Result File → File
 readOr (refuse r p) = record {
   version = 0;
-  task = record { facts = 0; init = 0; unknown = 0; goal = 0; actions = [] };
+  task = record { facts = 0; init = 0; unknown = 0; goal = 0; off = 0; actions = [] };
   actionSets = [];
   stateSets = [];
   steps = [];

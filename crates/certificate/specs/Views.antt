@@ -136,9 +136,18 @@ viewOfActions p (either a b) = Either a b
 unfoldable pub actionsIn : File → Actions
 actionsIn f = record { at = actionCountAt (f .version) + 2; size = actionSize (f .version); count = length (f .task .actions) }
 
--- the action at place p
-unfoldable pub actionIn : List ℕ → ℕ → Action
-actionIn bytes p = record { pre = numberAt 8 bytes p; add = numberAt 8 bytes (p + 8); del = numberAt 8 bytes (p + 16) }
+-- what the action of `size` bytes at place p needs off: a fourth mask has it, and where there is none no fact
+unfoldable pub offIn : List ℕ → ℕ → ℕ → ℕ
+offIn bytes size p = elim (eqb size 32) [ true ↦ numberAt 8 bytes (p + 24) | false ↦ 0 ]
+
+-- the action of `size` bytes at place p
+unfoldable pub actionIn : List ℕ → ℕ → ℕ → Action
+actionIn bytes size p = record {
+  pre = numberAt 8 bytes p;
+  add = numberAt 8 bytes (p + 8);
+  del = numberAt 8 bytes (p + 16);
+  off = offIn bytes size p;
+}
 
 -- the step at place p, put together from the numbers that stand there
 unfoldable pub stepRead : List ℕ → ℕ → Step

@@ -15,7 +15,7 @@ ghost use mathlib.Core.Path.{_≡_};
 ghost use Prim.Native.Nat.{_+_, _-_, _*_, _≤_, _<_};
 ghost use lib.ListN.{length};
 ghost use Rattle.bytes.specs.Numbers.{numberAt};
-ghost use Rattle.certificate.specs.Views.{headAt, spanOf, stateOf, actionsOf, stateEntryAt, actionEntryAt, judgementOf, cleanOf, stepRead, stepOf, actionIn};
+ghost use Rattle.certificate.specs.Views.{headAt, spanOf, stateOf, actionsOf, stateEntryAt, actionEntryAt, judgementOf, cleanOf, stepRead, stepOf, offIn, actionIn};
 
 // The numbers of an entry: its kind, where its body starts and how long it is, and the two numbers that start the body.
 pub struct Head {
@@ -161,15 +161,27 @@ pub fn step_in(file: &[u8], at: u32) -> Step
     }
 }
 
-// The action that stands at a place.
-pub fn action_at(file: &[u8], at: u32) -> Action
-    ensures { λ r. ⌜ r ≡ actionIn (now (file .entry)) at ⌝ }
+// What the action of `size` bytes at a place needs off: no fact where it has no mask of them.
+fn off_at(file: &[u8], size: u8, at: u32) -> u64
+    ensures { λ r. ⌜ r ≡ offIn (now (file .entry)) size at ⌝ }
+{
+    if size == 32 {
+        u64_at(file, at as usize + 24)
+    } else {
+        0
+    }
+}
+
+// The action of `size` bytes that stands at a place.
+pub fn action_at(file: &[u8], size: u8, at: u32) -> Action
+    ensures { λ r. ⌜ r ≡ actionIn (now (file .entry)) size at ⌝ }
 {
     let p = at as usize;
     let pre = u64_at(file, p);
     let add = u64_at(file, p + 8);
     let del = u64_at(file, p + 16);
-    Action { pre, add, del }
+    let off = off_at(file, size, at);
+    Action { pre, add, del, off }
 }
 
 // The action's number at an index of the body of a listed action set.
