@@ -87,9 +87,10 @@ pub fn action(file: &[u8], all: Actions, i: u16) -> Action
             pre: 0,
             add: 0,
             del: 0,
+            off: 0,
         };
     }
-    action_at(file, all.at + all.size as u32 * i as u32)
+    action_at(file, all.size, all.at + all.size as u32 * i as u32)
 }
 
 // The step with a number.

@@ -1,7 +1,8 @@
 -- `lookup::action`: past the last action the default, else what stands at its place.
 -- Assumes nothing.
-use mathlib.Core.Path.{_≡_, ap, _∙_}
-use Prim.Native.Nat.{ℕ, _*_, _≤_}
+use mathlib.Core.Path.{ap, _∙_}
+use Prim.Native.Nat.{_*_, _≤_}
+use native.Mathlib.Nat.{mul-le-mul-right}
 use borrow.Author.Needs.{needs}
 use native.Mathlib.Omega.{arith}
 use Rattle.meaning.proofs.Places.{places}
@@ -20,12 +21,12 @@ returns c =
     read-no-action _ (p .0) (s .args .i) (rw (p .1) at (c .if1 .taken))
 
 -- the place of an action is a small number
-far : (s : tie.Start) → (s .args .all .size * s .args .i ≡ 24 * s .args .i) × (s .args .all .at ≤ 32)
+far : (s : tie.Start) → (s .args .all .size * s .args .i ≤ 32 * s .args .i) × (s .args .all .at ≤ 40)
 unfolding actionsIn
 far s =
     let o = places (decoded (s .args .file .now) .version) in
     let q = s .pre .1 in
-    (ap (λ (x : Actions). x .size * s .args .i) q ∙ ap (λ (k : ℕ). k * s .args .i) (o .size), omega (arith, ap (λ (x : Actions). x .at) q))
+    (mul-le-mul-right (s .args .i) (omega (arith, ap (λ (x : Actions). x .size) q)), omega (arith, ap (λ (x : Actions). x .at) q))
 
 mul-action-at : tie.Need-mul-action-at
 mul-action-at c = let e = far (c .before .before .before .before) .0 in record { fits = omega arith }
