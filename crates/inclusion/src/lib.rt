@@ -118,6 +118,7 @@ fn is_countered(
         pre: 0,
         add: 0,
         del: 0,
+        off: 0,
     };
     one_refutes(file, index, ends, left, right, g, nothing)
 }
