@@ -10,6 +10,7 @@ use lib.Dec.{T, leb, eqb, leb→le}
 use borrow.Author.Tests.{not-true, not-false}
 use Rattle.task.specs.Inner.{endsOf}
 use Rattle.task.specs.Task.{Task}
+use Rattle.task.specs.declared.Ends.{Ends}
 use Rattle.task.proofs.Tests.{and-left, and-right, holds, is-true}
 use Rattle.certificate.specs.declared.Outline.the-variants.{Lawful, Refused}
 use Rattle.bodies.specs.declared.Fault.{Fault}
@@ -24,7 +25,7 @@ use Rattle.certificate.specs.Views.{outlineTo, outlineOf}
 use Rattle.bytes.specs.Numbers.{numberAt}
 use Rattle.meaning.specs.Layout.{count, goalAt, actionCountAt, afterActions, readTask, readWithin}
 use Rattle.bodies.specs.Faults.{fault}
-use Rattle.layout.specs.Sections.{isWhole, unknownAt, rest, sectionAt, stepCountAt, stepsAt, restAt}
+use Rattle.layout.specs.Sections.{isWhole, unknownAt, goalOffAt, rest, sectionAt, stepCountAt, stepsAt, restAt}
 use Rattle.meaning.proofs.Results.{bind-case, found-same, and-out}
 use Rattle.bytes.proofs.ByteLaws.{number-in}
 use Rattle.bodies.proofs.Faults.{found-of, refused-of, goes-on, stops, passed, failed}
@@ -56,23 +57,24 @@ rest-found (found x) {a = a} {b} g e =
     let j : x .1 ≡ b = cc in
     ap₂ (λ (y z : ℕ). found (y, z)) i j
 
--- the counts of the state sets and of the steps lie in the file
+-- the counts of the action sets, of the state sets and of the steps lie in the file
 pub rest-ends : (l : Limits) (bytes : List ℕ) (n m p : ℕ) {x : Rest} {a b : ℕ} → x ≡ Both a b → x ≡ rest (restAt bytes l n m p)
-    → (a + 2 ≤ length bytes) × (b + 2 ≤ length bytes)
+    → (p + 2 ≤ length bytes) × (a + 2 ≤ length bytes) × (b + 2 ≤ length bytes)
 unfolding restAt sectionAt stepsAt
 rest-ends l bytes n m p {a = a} {b} x e =
     bind-case (sectionAt bytes (record { states = false; facts = n; others = m; most = l .states }) 256 p) _ (a, b)
-    (rest-found (restAt bytes l n m p) x e) λ es _ e₁.
+    (rest-found (restAt bytes l n m p) x e) λ es es! e₁.
     bind-case (sectionAt bytes (record { states = true; facts = n; others = numberAt 2 bytes p; most = l .states }) 512 (es .1))
     _ (a, b) e₁ λ ss ss! e₂.
     bind-case (stepsAt bytes (l .steps) (ss .1)) _ (a, b) e₂ λ ks ks! q.
+    bind-case (count bytes 0 256 p) _ es es! λ ac ac! _.
     bind-case (count bytes 0 512 (es .1)) _ ss ss! λ sc sc! _.
     bind-case (stepCountAt bytes (l .steps) (ss .1)) _ ks ks! λ kc kc! _.
     let i : es .1 ≡ a = ap (λ (x : ℕ × ℕ). x .0) (found-same q) in
     let j : ss .1 ≡ b = ap (λ (x : ℕ × ℕ). x .1) (found-same q) in
     let h = count-is bytes 0 512 (es .1) sc sc! .1 in
     let g = count-is bytes 1 2048 (ss .1) kc (step-count-is bytes (l .steps) (ss .1) kc kc!) .1 in
-    (omega arith, omega arith)
+    (count-is bytes 0 256 p ac ac! .1, omega arith, omega arith)
 
 -- ---- the tests
 
@@ -163,12 +165,13 @@ module _ (l : Limits) (bytes : List ℕ) {w : Bool} (ew : w ≡ isWhole bytes) w
           rest-bad y e =
               both-refused l bytes t same (tail l bytes t same) _ (tail-agrees l bytes t same) (sym y ∙ e ∙ rest-same) ∙ outline-tail
 
-          module _ {i k o a b ac sc kc : ℕ} (ei : i ≡ numberAt 8 bytes 6) (ej : k ≡ unknownAt bytes v)
-              (eo : o ≡ numberAt 8 bytes (goalAt v)) (ea : ac ≡ numberAt 2 bytes p)
+          module _ {ends : Ends} {i o a b ac sc kc : ℕ} (ei : i ≡ numberAt 8 bytes 6) (eo : o ≡ numberAt 8 bytes (goalAt v))
+              (ex : ends ≡ record { facts = n; init = i; unknown = unknownAt bytes v; goal = o; off = goalOffAt bytes v })
+              (ea : ac ≡ numberAt 2 bytes p)
               (es : sc ≡ numberAt 2 bytes a) (ek : kc ≡ numberAt 2 bytes b) where
             pub lawful : {x : Rest} → x ≡ Both a b → x ≡ rest (restAt bytes l n m p)
                 → Lawful (record {
-                  ends = record { facts = n; init = i; unknown = k; goal = o };
+                  ends = ends;
                   actions = m;
                   «action_sets» = ac;
                   «state_sets» = sc;
@@ -180,11 +183,14 @@ module _ (l : Limits) (bytes : List ℕ) {w : Bool} (ew : w ≡ isWhole bytes) w
             unfolding endsOf
             lawful y e =
                 let pi : i ≡ t .init = ei ∙ sym (is .init) in
-                let pu : k ≡ t .unknown = ej ∙ ap (unknownAt bytes) ev ∙ sym (is .unknown) in
+                let pu : unknownAt bytes v ≡ t .unknown = ap (unknownAt bytes) ev ∙ sym (is .unknown) in
                 let po : o ≡ t .goal = eo ∙ ap (λ (x : ℕ). numberAt 8 bytes (goalAt x)) ev ∙ sym (is .goal) in
+                let pf : goalOffAt bytes v ≡ t .off = ap (goalOffAt bytes) ev ∙ sym (is .off) in
+                let px : ends ≡ endsOf t =
+                ex ∙ (λ j. record { facts = facts-same j; init = pi j; unknown = pu j; goal = po j; off = pf j }) in
                 let pa : ac ≡ numberAt 2 bytes (start l bytes t same) = ea ∙ ap (numberAt 2 bytes) place-same in
                 ap Lawful (λ j. record {
-                  ends = record { facts = facts-same j; init = pi j; unknown = pu j; goal = po j };
+                  ends = px j;
                   actions = actions-same j;
                   «action_sets» = pa j;
                   «state_sets» = es j;

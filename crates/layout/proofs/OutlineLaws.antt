@@ -16,17 +16,16 @@ use Rattle.meaning.specs.declared.Limits.{Limits}
 use Rattle.meaning.specs.File.{File, ActionSet, StateSet, Step}
 use Rattle.certificate.specs.Views.{afterEntry, entryPlace, placesOf}
 use Rattle.bytes.specs.Numbers.{numberAt}
-use Rattle.meaning.specs.Layout.{items, field, count, mask, action, step, Kind, actionKinds, stateKinds, entry, entries}
+use Rattle.meaning.specs.Layout.{items, count, action, step, Kind, actionKinds, stateKinds, entry, entries}
 use Rattle.meaning.specs.Layout.{goalAt, actionCountAt, actionSize, afterActions, readTask}
-use Rattle.meaning.specs.Writing.{FitsAction}
 use Rattle.bodies.specs.Faults.{fault}
-use Rattle.layout.specs.Sections.{unknownAt, sectionAt, stepCountAt, stepsAt, restAt}
+use Rattle.layout.specs.Sections.{unknownAt, goalOffAt, sectionAt, stepCountAt, stepsAt, restAt}
 use Rattle.meaning.proofs.Reading.{task-walked}
 use Rattle.meaning.proofs.Results.{bind-case, found-same}
-use Rattle.meaning.proofs.Given.{action-gives, items-give, action-sets-give, state-sets-give}
+use Rattle.meaning.proofs.Given.{items-give, action-sets-give, state-sets-give}
 use Rattle.bytes.proofs.ByteLaws.{number-in}
 use Rattle.layout.proofs.SectionChecks.{field-is, count-is, entry-fine}
-use Rattle.layout.proofs.TaskLaws.{mask-is, unknown-is}
+use Rattle.layout.proofs.TaskLaws.{mask-is, unknown-is, goal-off-is}
 
 -- ---- where the entries end
 
@@ -58,6 +57,7 @@ pub record TaskIs (bytes : List ℕ) (t : Task) (end : ℕ) : Type 0 where
   pub init : t .init ≡ numberAt 8 bytes 6
   pub unknown : t .unknown ≡ unknownAt bytes (numberAt 1 bytes 4)
   pub goal : t .goal ≡ numberAt 8 bytes (goalAt (numberAt 1 bytes 4))
+  pub off : t .off ≡ goalOffAt bytes (numberAt 1 bytes 4)
   pub actions : length (t .actions) ≡ numberAt 2 bytes (actionCountAt (numberAt 1 bytes 4))
   pub ends : end ≡ afterActions (numberAt 1 bytes 4) (length (t .actions))
 
@@ -65,8 +65,8 @@ pub task-is : (bytes : List ℕ) (r : Task × ℕ) → readTask bytes ≡ found 
 task-is bytes r e =
     let w = task-walked bytes r e in
     let o = field-is bytes 1 4 (w .v) (w .v!) in
-    let h : length (w .acts) ≡ w .m = items-give (FitsAction (w .n)) (action bytes (w .n)) (actionSize (w .v)) (action-gives bytes (w .n))
-    (w .m) 0 _ (w .acts) (w .acts!) .0 in
+    let h : length (w .acts) ≡ w .m =
+    items-give (λ _. Unit {0}) (action bytes (w .v) (w .n)) (actionSize (w .v)) (λ p x e. tt) (w .m) 0 _ (w .acts) (w .acts!) .0 in
     subst (λ (x : Task × ℕ). TaskIs bytes (x .0) (x .1)) (w .whole)
     (record {
       version = sym (number-in 1 bytes 4 (o .1));
@@ -74,6 +74,7 @@ task-is bytes r e =
       init = mask-is bytes (w .n) 6 (w .s) (w .s!) .0;
       unknown = rw (← o .0) (unknown-is bytes (w .v) (w .n) (w .s) (w .u) (w .s!) (w .u!) .0);
       goal = rw (← o .0) (mask-is bytes (w .n) (goalAt (w .v)) (w .g) (w .g!) .0);
+      off = rw (← o .0) (goal-off-is bytes (w .v) (w .n) (w .o) (w .o!));
       actions = rw (← o .0) (h ∙ count-is bytes 0 256 (actionCountAt (w .v)) (w .m) (w .m!) .0);
       ends = rw (← o .0, h) refl;
     })

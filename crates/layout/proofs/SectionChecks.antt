@@ -14,7 +14,7 @@ use Rattle.bodies.specs.declared.Fault.the-variants.{None, At}
 use Rattle.layout.specs.declared.rows.Walked.the-variants.{After, Refused as Stopped}
 use Rattle.entries.specs.declared.Section.{Section}
 use Rattle.meaning.specs.Result.{Result, refuse, found, _>>=_}
-use Rattle.meaning.specs.Bytes.{number, inside}
+use Rattle.meaning.specs.Bytes.{inside}
 use Rattle.bytes.specs.Numbers.{numberAt}
 use Rattle.meaning.specs.File.{Step}
 use Rattle.meaning.specs.Layout.{items, field, count, step, Kind, entry, entries}

@@ -1,32 +1,40 @@
 -- The fields up to and with the actions, test by test. The masks of the start, the goal and the actions are read as runs of masks.
 -- Assumes nothing.
 use mathlib.Core.Path.{_≡_, refl, sym, ap, ap₂, _∙_}
-use Prim.Native.Nat.{ℕ, zero, suc, _+_, _*_, _^_, _≤_}
+use Prim.Native.Nat.{ℕ, zero, suc, _+_, _*_, _/_, _^_, _≤_}
+use native.Mathlib.Nat.{mul-suc}
 use native.Mathlib.Omega.{arith}
-use mathlib.Core.Bool.{Bool, true, false, not, _&&_, _||_}
+use mathlib.Core.Bool.{Bool, true, false, not, _&&_}
 use mathlib.Core.List.{List, [], _∷_}
 use lib.ListN.{length}
 use lib.Bits.{bitAnd}
 use lib.Dec.{leb, ltb, eqb}
 use borrow.Author.Tests.{eq-eqb, ne-eqb, not-true, not-false}
 use Rattle.task.specs.Task.{Task}
-use Rattle.task.specs.declared.Action.{Action}
 use Rattle.bodies.specs.declared.Fault.{Fault}
 use Rattle.bodies.specs.declared.Fault.the-variants.{None, At}
 use Rattle.meaning.specs.Result.{Result, refuse, found, _>>=_, need}
 use Rattle.meaning.specs.Bytes.{inside}
 use Rattle.bytes.specs.Numbers.{numberAt}
-use Rattle.meaning.specs.Layout.{items, field, count, mask, action, goalAt, actionCountAt, actionSize, afterActions}
+use Rattle.meaning.specs.Layout.{items, field, count, mask, offMask, action, goalAt, offSize, actionCountAt, actionSize, afterActions}
 use Rattle.meaning.specs.Layout.{unknownMask, readTask}
 use Rattle.bodies.specs.Faults.{fault}
-use Rattle.layout.specs.Sections.{factsAt, startAt, unknownAt}
+use Rattle.layout.specs.Sections.{factsAt, startAt, unknownAt, goalsAt, goalOffAt}
 use Rattle.meaning.proofs.Results.{bind-case, bind-same, need-case, found-same}
-use Rattle.meaning.proofs.Places.{goal-first, goal-later}
+use Rattle.meaning.proofs.Places.{by-test, goal-first, goal-later, off-none, off-some, places}
+use Rattle.meaning.proofs.Off.{read-off, read-no-off}
 use Rattle.meaning.proofs.Unknown.{Unknown, none, some, unknown-out}
 use Rattle.bytes.proofs.ByteLaws.{inside-out}
 use Rattle.bodies.proofs.Faults.{forget, told, found-of, refused-of, goes-on, stops, passed, failed, forget-after}
 use Rattle.bodies.proofs.FieldLaws.{field-in}
 use Rattle.layout.proofs.SectionChecks.{field-is, count-found}
+
+-- readings one within the other, and one after the other
+in-turn : {A B D : Type 0} (r : Result A) (f : A → Result B) (g : B → Result D) (h : A → Result D) → ((x : A) → (f x >>= g) ≡ h x)
+    → ((r >>= f) >>= g) ≡ (r >>= h)
+unfolding _>>=_
+in-turn (refuse n p) f g h e = refl
+in-turn (found x) f g h e = e x
 
 -- ---- runs of masks
 
@@ -50,32 +58,89 @@ two-good (refuse m p) b e = let z : _≡_ {A = ℕ} 0 1 = cc in absurd (omega ar
 two-good (found x) (refuse m p) e = let z : _≡_ {A = ℕ} 0 1 = cc in absurd (omega arith)
 two-good (found x) (found y) e = (x, y, refl, refl)
 
--- an action is three masks, and what follows it
-three : {B : Type 0} (a b c : Result ℕ) (ts : Result (List ℕ)) (us : Result B) (f : ℕ → ℕ → ℕ → Action) (g : Action → B → List Action)
-    → forget ts ≡ forget us
-    → forget (a >>= λ x. (b >>= λ y. (c >>= λ z. ts >>= λ zs. found (z ∷ zs)) >>= λ ys. found (y ∷ ys)) >>= λ xs. found (x ∷ xs))
-    ≡ forget ((a >>= λ x. b >>= λ y. c >>= λ z. found (f x y z)) >>= λ v. us >>= λ vs. found (g v vs))
+-- the first item of a run and what comes after it, where only refusals count
+forget-on : {A B : Type 0} (r : Result A) (g : A → Result B) (u : Result (Unit {0})) → ((x : A) → forget (g x) ≡ u)
+    → forget (r >>= g) ≡ (forget r >>= λ _. u)
 unfolding _>>=_
-three (refuse m p) b c ts us f g e = refl
-three (found x) (refuse m p) c ts us f g e = refl
-three (found x) (found y) (refuse m p) ts us f g e = refl
-three (found x) (found y) (found z) (refuse m p) us f g e = e ∙ sym (forget-after us (g (f x y z)))
-three (found x) (found y) (found z) (found zs) us f g e = e ∙ sym (forget-after us (g (f x y z)))
+forget-on (refuse m p) g u h = refl
+forget-on (found x) g u h = h x
 
-actions-masks : (bytes : List ℕ) (n m p : ℕ) → forget (items (mask bytes n) 8 p (3 * m)) ≡ forget (items (action bytes n) 24 p m)
-unfolding items action
-actions-masks bytes n zero p = refl
-actions-masks bytes n (suc m) p =
-    let e : 3 * suc m ≡ suc (suc (suc (3 * m))) = omega arith in
-    let e₁ : p + 8 + 8 ≡ p + 16 = omega arith in
-    let e₂ : p + 8 + 8 + 8 ≡ p + 24 = omega arith in
-    ap (λ (k : ℕ). forget (items (mask bytes n) 8 p k)) e
-    ∙ three (mask bytes n p) (mask bytes n (p + 8)) (mask bytes n (p + 8 + 8)) (items (mask bytes n) 8 (p + 8 + 8 + 8) (3 * m))
-    (items (action bytes n) 24 (p + 24) m) (λ x y z. record { pre = x; add = y; del = z }) _∷_
-    (ap (λ (j : ℕ). forget (items (mask bytes n) 8 j (3 * m))) e₂ ∙ actions-masks bytes n m (p + 24))
-    ∙ ap (λ (j : ℕ). forget ((mask bytes n p >>= λ x. mask bytes n (p + 8) >>= λ y. mask bytes n j >>= λ z. found
-    (record { pre = x; add = y; del = z }))
-    >>= λ (v : Action). items (action bytes n) 24 (p + 24) m >>= λ vs. found (v ∷ vs))) e₁
+run-first : {A : Type 0} (read : ℕ → Result A) (size p k : ℕ)
+    → forget (items read size p (suc k)) ≡ (forget (read p) >>= λ _. forget (items read size (p + size) k))
+unfolding items
+run-first read size p k = forget-on (read p) _ _ (λ x. forget-after (items read size (p + size) k) (λ xs. x ∷ xs))
+
+-- the first j items, and the others
+run-apart : {A : Type 0} (read : ℕ → Result A) (size j k p : ℕ)
+    → forget (items read size p (j + k)) ≡ (forget (items read size p j) >>= λ _. forget (items read size (p + size * j) k))
+unfolding items _>>=_
+run-apart read size zero k p =
+    let e : p ≡ p + size * 0 = omega arith in
+    let d : 0 + k ≡ k = omega arith in
+    λ i. forget (items read size (e i) (d i))
+run-apart read size (suc j) k p =
+    let d : suc j + k ≡ suc (j + k) = omega arith in
+    let e : p + size + size * j ≡ p + size * suc j = omega (arith, mul-suc size j) in
+    let f = sym (run-first read size p j) in
+    ap (λ (l : ℕ). forget (items read size p l)) d
+    ∙ run-first read size p (j + k)
+    ∙ ap (λ (u : Result (Unit {0})). forget (read p) >>= λ _. u) (run-apart read size j k (p + size))
+    ∙ sym (in-turn (forget (read p)) _ _ _ λ _. refl)
+    ∙ (λ i. f i >>= λ _. forget (items read size (e i) k))
+
+-- items that are k masks each are one run of masks
+one-run : {A : Type 0} (read : ℕ → Result A) (each : ℕ → Result ℕ) (size k : ℕ) → 8 * k ≡ size
+    → ((p : ℕ) → forget (items each 8 p k) ≡ forget (read p)) → (m p : ℕ) → forget (items each 8 p (k * m)) ≡ forget (items read size p m)
+unfolding items
+one-run read each size k e h zero p = let d : k * 0 ≡ 0 = omega arith in ap (λ (l : ℕ). forget (items each 8 p l)) d
+one-run read each size k e h (suc m) p =
+    let d : k * suc m ≡ k + k * m = omega (arith, mul-suc k m) in
+    ap (λ (l : ℕ). forget (items each 8 p l)) d
+    ∙ run-apart each 8 k (k * m) p
+    ∙ (λ i. h p i >>= λ _. forget (items each 8 (p + e i) (k * m)))
+    ∙ ap (λ (u : Result (Unit {0})). forget (read p) >>= λ _. u) (one-run read each size k e h m (p + size))
+    ∙ sym (run-first read size p m)
+
+-- a mask, and what is read behind it
+mask-then : {B : Type 0} (read : ℕ → Result ℕ) (p k q : ℕ) (g : ℕ → Result B) → p + 8 ≡ q
+    → ((x : ℕ) → forget (items read 8 q k) ≡ forget (g x)) → forget (items read 8 p (suc k)) ≡ forget (read p >>= g)
+mask-then read p k q g e h =
+    run-first read 8 p k
+    ∙ ap (λ (j : ℕ). forget (read p) >>= λ _. forget (items read 8 j k)) e
+    ∙ sym (forget-on (read p) g _ (λ x. sym (h x)))
+
+-- a field of facts that are off is a run of one mask or of none; the goal's masks and an action's end with it
+module _ (bytes : List ℕ) (v n : ℕ) where
+  off-run : (p : ℕ) → forget (items (mask bytes n) 8 p (offSize v / 8)) ≡ forget (offMask bytes v n p)
+  unfolding items
+  off-run p =
+      by-test (eqb v 3)
+      (λ t. rw (off-some v t, read-off bytes v n p t) (one-mask (mask bytes n) p))
+      (λ f. rw (off-none v f, read-no-off bytes v n p f) refl)
+
+  goals-run : forget (items (mask bytes n) 8 (goalAt v) (1 + offSize v / 8)) ≡ forget (goalsAt bytes v n)
+  unfolding goalsAt
+  goals-run =
+      let d : 1 + offSize v / 8 ≡ suc (offSize v / 8) = omega arith in
+      ap (λ (k : ℕ). forget (items (mask bytes n) 8 (goalAt v) k)) d
+      ∙ mask-then (mask bytes n) (goalAt v) _ (goalAt v + 8) _ refl λ g.
+      off-run (goalAt v + 8) ∙ sym (forget-after (offMask bytes v n (goalAt v + 8)) _)
+
+  action-run : (p : ℕ) → forget (items (mask bytes n) 8 p (actionSize v / 8)) ≡ forget (action bytes v n p)
+  unfolding action
+  action-run p =
+      let d : actionSize v / 8 ≡ suc (suc (suc (offSize v / 8))) = omega (arith, places v .size) in
+      ap (λ (k : ℕ). forget (items (mask bytes n) 8 p k)) d
+      ∙ mask-then (mask bytes n) p _ (p + 8) _ refl λ a.
+      mask-then (mask bytes n) (p + 8) _ (p + 16) _ (omega arith) λ b.
+      mask-then (mask bytes n) (p + 16) _ (p + 24) _ (omega arith) λ c.
+      off-run (p + 24) ∙ sym (forget-after (offMask bytes v n (p + 24)) _)
+
+  actions-run : (m p : ℕ) → forget (items (mask bytes n) 8 p (actionSize v / 8 * m)) ≡ forget (items (action bytes v n) (actionSize v) p m)
+  actions-run =
+      let d : 8 * (actionSize v / 8) ≡ actionSize v =
+      by-test (eqb v 3) (λ t. omega (arith, places v .size, off-some v t)) (λ f. omega (arith, places v .size, off-none v f)) in
+      one-run (action bytes v n) (mask bytes n) (actionSize v) (actionSize v / 8) d action-run
 
 -- ---- the version and the number of facts
 
@@ -91,15 +156,15 @@ module _ (bytes : List ℕ) {t : Bool} (q : t ≡ inside 1 bytes 4) where
     version-read : field bytes 1 4 ≡ found v
     version-read = field-in bytes 4 1 (inside-out 1 bytes 4 (sym q ∙ not-false t s)) ev
 
-    pub version-other : not (eqb v 1 || eqb v 2) ≡ true → At 2 4 ≡ fault (factsAt bytes)
+    pub version-other : not (leb 1 v && leb v 3) ≡ true → At 2 4 ≡ fault (factsAt bytes)
     unfolding factsAt
-    version-other g = refused (goes-on _ version-read ∙ failed 2 4 _ (not-true (eqb v 1 || eqb v 2) g))
+    version-other g = refused (goes-on _ version-read ∙ failed 2 4 _ (not-true (leb 1 v && leb v 3) g))
 
-    module _ (g : not (eqb v 1 || eqb v 2) ≡ false) {u : Bool} (q′ : u ≡ inside 1 bytes 5) where
+    module _ (g : not (leb 1 v && leb v 3) ≡ false) {u : Bool} (q′ : u ≡ inside 1 bytes 5) where
       pub facts-cut : not u ≡ true → At 3 5 ≡ fault (factsAt bytes)
       unfolding factsAt field
       facts-cut s′ =
-          refused (goes-on _ version-read ∙ passed 2 4 _ (not-false (eqb v 1 || eqb v 2) g)
+          refused (goes-on _ version-read ∙ passed 2 4 _ (not-false (leb 1 v && leb v 3) g)
           ∙ stops _ (failed 3 5 _ (sym q′ ∙ not-true u s′)))
 
       module _ (s′ : not u ≡ false) {n : ℕ} (en : n ≡ numberAt 1 bytes 5) where
@@ -109,21 +174,14 @@ module _ (bytes : List ℕ) {t : Bool} (q : t ≡ inside 1 bytes 4) where
         pub facts-bad : not (leb 1 n && leb n 64) ≡ true → At 4 5 ≡ fault (factsAt bytes)
         unfolding factsAt
         facts-bad x =
-            refused (goes-on _ version-read ∙ passed 2 4 _ (not-false (eqb v 1 || eqb v 2) g) ∙ goes-on _ facts-read
+            refused (goes-on _ version-read ∙ passed 2 4 _ (not-false (leb 1 v && leb v 3) g) ∙ goes-on _ facts-read
             ∙ failed 4 5 _ (not-true (leb 1 n && leb n 64) x))
 
         pub facts-good : not (leb 1 n && leb n 64) ≡ false → None ≡ fault (factsAt bytes)
         unfolding factsAt
         facts-good x =
-            sym (ap fault (goes-on _ version-read ∙ passed 2 4 _ (not-false (eqb v 1 || eqb v 2) g) ∙ goes-on _ facts-read
+            sym (ap fault (goes-on _ version-read ∙ passed 2 4 _ (not-false (leb 1 v && leb v 3) g) ∙ goes-on _ facts-read
             ∙ passed 4 5 _ (not-false (leb 1 n && leb n 64) x)))
-
--- readings one within the other, and one after the other
-in-turn : {A B D : Type 0} (r : Result A) (f : A → Result B) (g : B → Result D) (h : A → Result D) → ((x : A) → (f x >>= g) ≡ h x)
-    → ((r >>= f) >>= g) ≡ (r >>= h)
-unfolding _>>=_
-in-turn (refuse n p) f g h e = refl
-in-turn (found x) f g h e = e x
 
 -- ---- the start and the unknown facts
 
@@ -152,6 +210,23 @@ unknown-is bytes v n s u s! (none e z) =
 unknown-is bytes v n s u s! (some e u! a) =
     let h = mask-is bytes n 14 u u! in
     (h .0 ∙ unknown-some bytes v e, (let l = h .1 in omega (arith, goal-later v e)))
+
+-- what is read of the goal's facts that are off is the number that stands for them
+pub goal-off-none : (bytes : List ℕ) (v : ℕ) → offSize v ≡ 0 → 0 ≡ goalOffAt bytes v
+unfolding goalOffAt
+goal-off-none bytes v e = rw (goalOffAt, e) refl
+
+pub goal-off-some : (bytes : List ℕ) (v : ℕ) → (offSize v ≡ 0 → ⊥) → numberAt 8 bytes (goalAt v + 8) ≡ goalOffAt bytes v
+unfolding goalOffAt
+goal-off-some bytes v e = rw (goalOffAt, ne-eqb (offSize v) 0 e) refl
+
+pub goal-off-is : (bytes : List ℕ) (v n o : ℕ) → offMask bytes v n (goalAt v + 8) ≡ found o → o ≡ goalOffAt bytes v
+goal-off-is bytes v n o e =
+    by-test (eqb v 3)
+    (λ t.
+    mask-is bytes n (goalAt v + 8) o (sym (read-off bytes v n (goalAt v + 8) t) ∙ e) .0
+    ∙ goal-off-some bytes v (λ z. omega (arith, off-some v t)))
+    (λ f. sym (found-same (sym (read-no-off bytes v n (goalAt v + 8) f) ∙ e)) ∙ goal-off-none bytes v (off-none v f))
 
 start-inside : (bytes : List ℕ) (v n : ℕ) (x : ℕ × ℕ) → startAt bytes v n ≡ found x → goalAt v ≤ length bytes
 unfolding startAt
@@ -206,24 +281,26 @@ module _ (bytes : List ℕ) (v n : ℕ) where
 -- ---- the task
 
 module _ (bytes : List ℕ) where
-  -- what follows the goal's mask, the start and the number of facts
-  abbrev fromGoal : ℕ → ℕ → ℕ × ℕ → ℕ → Result (Task × ℕ)
+  -- what follows the goal's masks, the start and the number of facts
+  abbrev fromGoal : ℕ → ℕ → ℕ × ℕ → ℕ × ℕ → Result (Task × ℕ)
   fromGoal v n x g =
-      count bytes 0 256 (actionCountAt v) >>= λ m. items (action bytes n) (actionSize v) (actionCountAt v + 2) m >>= λ acts.
-      found (record { facts = n; init = x .0; unknown = x .1; goal = g; actions = acts }, afterActions v m)
+      count bytes 0 256 (actionCountAt v) >>= λ m. items (action bytes v n) (actionSize v) (actionCountAt v + 2) m >>= λ acts.
+      found (record { facts = n; init = x .0; unknown = x .1; goal = g .0; off = g .1; actions = acts }, afterActions v m)
 
   abbrev fromStart : ℕ → ℕ → ℕ × ℕ → Result (Task × ℕ)
-  fromStart v n x = mask bytes n (goalAt v) >>= fromGoal v n x
+  fromStart v n x = goalsAt bytes v n >>= fromGoal v n x
 
   abbrev fromFacts : ℕ × ℕ → Result (Task × ℕ)
   fromFacts x = startAt bytes (x .0) (x .1) >>= fromStart (x .0) (x .1)
 
   opened : (factsAt bytes >>= fromFacts) ≡ readTask bytes
-  unfolding factsAt startAt readTask _>>=_
+  unfolding factsAt startAt goalsAt readTask _>>=_
   opened =
-      in-turn (field bytes 1 4) _ fromFacts _ λ v. in-turn (need (eqb v 1 || eqb v 2) 2 4) _ fromFacts _ λ _.
+      in-turn (field bytes 1 4) _ fromFacts _ λ v. in-turn (need (leb 1 v && leb v 3) 2 4) _ fromFacts _ λ _.
       in-turn (field bytes 1 5) _ fromFacts _ λ n. in-turn (need (leb 1 n && leb n 64) 4 5) _ fromFacts _ λ _.
-      in-turn (mask bytes n 6) _ (fromStart v n) _ λ s. in-turn (unknownMask bytes v n s) _ (fromStart v n) _ λ u. refl
+      in-turn (mask bytes n 6) _ (fromStart v n) _ λ s. in-turn (unknownMask bytes v n s) _ (fromStart v n) _ λ u.
+      let h = fromGoal v n (s, u) in
+      in-turn (mask bytes n (goalAt v)) _ h _ λ g. in-turn (offMask bytes v n (goalAt v + 8)) _ h _ λ o. refl
 
   refused-task : {r p : ℕ} → readTask bytes ≡ refuse r p → At r p ≡ fault (readTask bytes)
   refused-task e = sym (ap fault e)
@@ -236,14 +313,14 @@ module _ (bytes : List ℕ) where
       → (x .0 ≡ numberAt 1 bytes 4) × (x .1 ≡ numberAt 1 bytes 5) × (6 ≤ length bytes)
   unfolding factsAt
   facts-found x e =
-      bind-case (field bytes 1 4) _ x e λ v v! e₁. need-case (eqb v 1 || eqb v 2) 2 4 _ x e₁ λ _ e₂.
+      bind-case (field bytes 1 4) _ x e λ v v! e₁. need-case (leb 1 v && leb v 3) 2 4 _ x e₁ λ _ e₂.
       bind-case (field bytes 1 5) _ x e₂ λ n n! e₃. need-case (leb 1 n && leb n 64) 4 5 _ x e₃ λ _ e₄.
       let k = field-is bytes 1 4 v v! in
       let h = field-is bytes 1 5 n n! in
       let q = sym (found-same e₄) in
       (ap (λ (y : ℕ × ℕ). y .0) q ∙ k .0, ap (λ (y : ℕ × ℕ). y .1) q ∙ h .0, h .1)
 
-  -- what is left to read of a file of version v with n facts, once the opening, the start and the goal's mask are read
+  -- what is left to read of a file of version v with n facts, once the opening, the start and the goal's masks are read
   pub record Opened (v n : ℕ) : Type 0 where
     pub reads : readTask bytes ≡ fromFacts (v, n)
     pub ends : 6 ≤ length bytes
@@ -255,7 +332,7 @@ module _ (bytes : List ℕ) where
 
   pub record Aimed (v n : ℕ) : Type 0 where
     pub start : ℕ × ℕ
-    pub goal : ℕ
+    pub goal : ℕ × ℕ
     pub reads : readTask bytes ≡ fromGoal v n start goal
 
   pub opened-well : {f : Fault} {v n : ℕ} → f ≡ None → f ≡ fault (factsAt bytes) → v ≡ numberAt 1 bytes 4 → n ≡ numberAt 1 bytes 5
@@ -268,9 +345,8 @@ module _ (bytes : List ℕ) where
         ends = h .2;
       }
 
-  -- the goal's mask is a run of one
-  goal-told : (v n : ℕ) {w : Fault} → w ≡ fault (items (mask bytes n) 8 (goalAt v) 1) → w ≡ fault (mask bytes n (goalAt v))
-  goal-told v n i = i ∙ told (items (mask bytes n) 8 (goalAt v) 1) (mask bytes n (goalAt v)) (one-mask (mask bytes n) (goalAt v))
+  goal-told : (v n : ℕ) {w : Fault} → w ≡ fault (items (mask bytes n) 8 (goalAt v) (1 + offSize v / 8)) → w ≡ fault (goalsAt bytes v n)
+  goal-told v n i = i ∙ told (items (mask bytes n) 8 (goalAt v) (1 + offSize v / 8)) (goalsAt bytes v n) (goals-run bytes v n)
 
   module _ {v n : ℕ} where
     pub start-refused : Opened v n → {w : Fault} {r p : ℕ} → w ≡ At r p → w ≡ fault (startAt bytes v n) → At r p ≡ fault (readTask bytes)
@@ -281,13 +357,13 @@ module _ (bytes : List ℕ) where
         let x = found-of (startAt bytes v n) (sym fine ∙ y) in
         record { start = x .0; reads = o .reads ∙ goes-on _ (x .1); ends = start-inside bytes v n (x .0) (x .1) }
 
-    pub goal-refused : Started v n → {w : Fault} {r p : ℕ} → w ≡ At r p → w ≡ fault (items (mask bytes n) 8 (goalAt v) 1)
-        → At r p ≡ fault (readTask bytes)
-    goal-refused t {r = r} {p} z i = refused-task (t .reads ∙ stops _ (refused-of (mask bytes n (goalAt v)) r p (sym z ∙ goal-told v n i)))
+    pub goal-refused : Started v n → {w : Fault} {r p : ℕ} → w ≡ At r p
+        → w ≡ fault (items (mask bytes n) 8 (goalAt v) (1 + offSize v / 8)) → At r p ≡ fault (readTask bytes)
+    goal-refused t {r = r} {p} z i = refused-task (t .reads ∙ stops _ (refused-of (goalsAt bytes v n) r p (sym z ∙ goal-told v n i)))
 
-    pub aimed-well : Started v n → {w : Fault} → w ≡ None → w ≡ fault (items (mask bytes n) 8 (goalAt v) 1) → Aimed v n
+    pub aimed-well : Started v n → {w : Fault} → w ≡ None → w ≡ fault (items (mask bytes n) 8 (goalAt v) (1 + offSize v / 8)) → Aimed v n
     aimed-well t fine i =
-        let g = found-of (mask bytes n (goalAt v)) (sym fine ∙ goal-told v n i) in
+        let g = found-of (goalsAt bytes v n) (sym fine ∙ goal-told v n i) in
         record { start = t .start; goal = g .0; reads = t .reads ∙ goes-on _ (g .1) }
 
     pub count-refused : Aimed v n → {w : Fault} {r p : ℕ} → w ≡ At r p → w ≡ fault (count bytes 0 256 (actionCountAt v))
@@ -296,11 +372,10 @@ module _ (bytes : List ℕ) where
 
     pub actions-say : Aimed v n → {w : Fault} → w ≡ None → w ≡ fault (count bytes 0 256 (actionCountAt v))
         → {m : ℕ} → m ≡ numberAt 2 bytes (actionCountAt v)
-        → {j : Fault} → j ≡ fault (items (mask bytes n) 8 (actionCountAt v + 2) (3 * m)) → j ≡ fault (readTask bytes)
-    unfolding actionSize
+        → {j : Fault} → j ≡ fault (items (mask bytes n) 8 (actionCountAt v + 2) (actionSize v / 8 * m)) → j ≡ fault (readTask bytes)
     actions-say t good z {m} em j =
         j
-        ∙ told (items (mask bytes n) 8 (actionCountAt v + 2) (3 * m)) (readTask bytes)
-        (actions-masks bytes n m (actionCountAt v + 2)
-        ∙ sym (forget-after (items (action bytes n) 24 (actionCountAt v + 2) m) _)
+        ∙ told (items (mask bytes n) 8 (actionCountAt v + 2) (actionSize v / 8 * m)) (readTask bytes)
+        (actions-run bytes v n m (actionCountAt v + 2)
+        ∙ sym (forget-after (items (action bytes v n) (actionSize v) (actionCountAt v + 2) m) _)
         ∙ ap forget (sym (t .reads ∙ goes-on _ (count-found bytes 0 256 (actionCountAt v) good z em))))

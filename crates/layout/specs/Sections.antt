@@ -1,18 +1,20 @@
 -- Sections of a file as the code reads them, and what follows the actions.
 -- Assumes nothing.
 use Prim.Native.Nat.{ℕ, _+_, _*_}
-use mathlib.Core.Bool.{Bool, true, false, _&&_, _||_}
+use mathlib.Core.Bool.{Bool, true, false, _&&_}
 use mathlib.Core.List.{List}
 use lib.ListN.{length}
 use lib.Dec.{leb, eqb}
 use Rattle.layout.specs.declared.Rest.{Rest}
 use Rattle.layout.specs.declared.Rest.the-variants.{After as Both, Refused as Ended}
+use Rattle.task.specs.declared.Ends.{Ends}
+use Rattle.reader.specs.declared.TaskHead.{TaskHead}
 use Rattle.entries.specs.declared.Section.{Section}
 use Rattle.meaning.specs.Result.{Result, refuse, found, _>>=_, need}
 use Rattle.bytes.specs.Numbers.{numberAt}
 use Rattle.meaning.specs.File.{Step}
 use Rattle.meaning.specs.declared.Limits.{Limits}
-use Rattle.meaning.specs.Layout.{items, field, count, mask, step, entries, unknownMask}
+use Rattle.meaning.specs.Layout.{items, goalAt, offSize, field, count, mask, offMask, step, entries, unknownMask}
 use Rattle.entries.specs.Forms.{setsOf}
 
 -- a reading of what follows the actions, as two places
@@ -28,7 +30,7 @@ isWhole bytes = (leb 4 (length bytes) && leb (length bytes) 65536) && eqb (numbe
 unfoldable pub factsAt : List ℕ → Result (ℕ × ℕ)
 factsAt bytes = do
   v ← field bytes 1 4
-  _ ← need (eqb v 1 || eqb v 2) 2 4
+  _ ← need (leb 1 v && leb v 3) 2 4
   n ← field bytes 1 5
   _ ← need (leb 1 n && leb n 64) 4 5
   found (v, n)
@@ -43,6 +45,21 @@ startAt bytes v n = do
 -- the number that stands for the unknown facts, and 0 where the version has none
 unfoldable pub unknownAt : List ℕ → ℕ → ℕ
 unknownAt bytes v = elim (eqb v 1) [ true ↦ 0 | false ↦ numberAt 8 bytes 14 ]
+
+-- the goal's masks: facts that are on, and facts that are off
+unfoldable pub goalsAt : List ℕ → ℕ → ℕ → Result (ℕ × ℕ)
+goalsAt bytes v n = do
+  g ← mask bytes n (goalAt v)
+  o ← offMask bytes v n (goalAt v + 8)
+  found (g, o)
+
+-- the number that stands for the facts that are off, and 0 where the version has none
+unfoldable pub goalOffAt : List ℕ → ℕ → ℕ
+goalOffAt bytes v = elim (eqb (offSize v) 0) [ true ↦ 0 | false ↦ numberAt 8 bytes (goalAt v + 8) ]
+
+-- the task's ends, by its head
+abbrev pub endsAt : List ℕ → ℕ → TaskHead → Ends
+endsAt bytes v h = record { facts = h .facts; init = h .init; unknown = unknownAt bytes v; goal = h .goal; off = goalOffAt bytes v }
 
 -- a section: its count, its entries, and the place after them
 unfoldable pub sectionAt : (bytes : List ℕ) (s : Section) → ℕ → ℕ → Result (List (setsOf bytes s .Item) × ℕ)

@@ -14,6 +14,7 @@ use certificate::Places;
 use entries::Section;
 use entries::inside;
 use meaning::Limits;
+use reader::TaskHead;
 use reader::task_head;
 use task::Ends;
 use versions::action_count_at;
@@ -22,6 +23,7 @@ use versions::after_actions;
 use versions::goal_at;
 use versions::goal_span;
 use versions::has_unknown;
+use versions::off_size;
 ghost use mathlib.Core.Path.{_≡_};
 ghost use Prim.Native.Nat.{_≤_};
 ghost use lib.ListN.{length};
@@ -30,7 +32,8 @@ ghost use Rattle.meaning.specs.Layout.{count, readTask};
 ghost use Rattle.certificate.specs.Views.{outlineOf};
 ghost use Rattle.bodies.specs.Faults.{fault};
 ghost use Rattle.layout.specs.Rows.{walked};
-ghost use Rattle.layout.specs.Sections.{isWhole, factsAt, startAt, unknownAt, sectionAt, stepCountAt, stepsAt, rest, restAt};
+ghost use Rattle.layout.specs.Sections.{isWhole, factsAt, startAt, unknownAt, goalOffAt, endsAt};
+ghost use Rattle.layout.specs.Sections.{sectionAt, stepCountAt, stepsAt, rest, restAt};
 
 mod rows;
 
@@ -148,7 +151,7 @@ fn opening(file: &[u8]) -> Fault
         };
     }
     let version = byte_at(file, 4);
-    if !((version == 1) | (version == 2)) {
+    if !((1 <= version) & (version <= 3)) {
         return Fault::At {
             number: 2,
             place: 4,
@@ -205,7 +208,31 @@ fn unknown(file: &[u8], version: u8) -> u64
     }
 }
 
-// The fields from the version up to and with the actions. An action is masks of eight bytes.
+// The goal's facts that are off, and none where the version has no field for them.
+fn goal_off(file: &[u8], version: u8) -> u64
+    ensures { λ r. ⌜ r ≡ goalOffAt (now (file .entry)) version ⌝ }
+{
+    if off_size(version) == 0 {
+        0
+    } else {
+        u64_at(file, goal_at(version) as usize + 8)
+    }
+}
+
+// The task's ends, by its head.
+fn ends(file: &[u8], version: u8, head: TaskHead) -> Ends
+    ensures { λ r. ⌜ r ≡ endsAt (now (file .entry)) version head ⌝ }
+{
+    Ends {
+        facts: head.facts,
+        init: head.init,
+        unknown: unknown(file, version),
+        goal: head.goal,
+        off: goal_off(file, version),
+    }
+}
+
+// The fields from the version up to and with the actions. The goal and an action are masks of eight bytes.
 fn task(file: &[u8]) -> Fault
     requires { ⌜ length (now file) ≤ 65536 ⌝ }
     ensures { λ r. ⌜ r ≡ fault (readTask (now (file .entry))) ⌝ }
@@ -215,12 +242,14 @@ fn task(file: &[u8]) -> Fault
         return Fault::At { number, place };
     }
     let version = byte_at(file, 4);
-    let head = task_head(file, goal_span(version));
+    let off = off_size(version);
+    let head = task_head(file, goal_span(version), off);
     let s = start(file, version, head.facts);
     if let Fault::At { number, place } = s {
         return Fault::At { number, place };
     }
-    let goal = walk(file, Row::Masks(head.facts), goal_at(version), 1);
+    let aims = 1 + (off >> 3) as u16;
+    let goal = walk(file, Row::Masks(head.facts), goal_at(version), aims);
     let w = goal.fault;
     if let Fault::At { number, place } = w {
         return Fault::At { number, place };
@@ -314,7 +343,7 @@ pub fn read_layout(file: &[u8], limits: Limits) -> Outline
         return Outline::Refused { number, place };
     }
     let version = byte_at(file, 4);
-    let head = task_head(file, goal_span(version));
+    let head = task_head(file, goal_span(version), off_size(version));
     let first = after_actions(version, head.actions);
     let rest = after_task(file, limits, head.facts, head.actions, first);
     match rest {
@@ -323,12 +352,7 @@ pub fn read_layout(file: &[u8], limits: Limits) -> Outline
             action_sets,
             state_sets,
         } => Outline::Lawful(Places {
-            ends: Ends {
-                facts: head.facts,
-                init: head.init,
-                unknown: unknown(file, version),
-                goal: head.goal,
-            },
+            ends: ends(file, version, head),
             actions: head.actions,
             action_sets: u16_at(file, first as usize),
             state_sets: u16_at(file, action_sets as usize),

@@ -7,8 +7,7 @@ use mathlib.Core.List.{List}
 use lib.ListN.{length}
 use Rattle.bytes.specs.Numbers.{numberAt}
 use Rattle.meaning.specs.declared.Limits.{Limits}
-use Rattle.meaning.specs.Layout.{goalAt, actionCountAt, actionSize}
-use Rattle.meaning.proofs.Places.{places, after-actions}
+use Rattle.meaning.specs.Layout.{goalAt, actionCountAt}
 use Rattle.reader.specs.declared.TaskHead.{TaskHead}
 use Rattle.layout.proofs.HeadLaws.{head-goal, head-actions}
 use Rattle.layout.proofs.LayoutLaws.{rest-ends, length-bad, length-most, length-over, task-bad, rest-bad, lawful}
@@ -42,47 +41,45 @@ returns-3 c =
 -- ---- what is known once what follows the task is told
 
 abbrev bytes : tie.After-after-task → List ℕ
-bytes t = t .before .before .before .before .before .before .before .before .before .before .before .before .before .args .file .now
+bytes t = t .before .before .before .before .before .before .before .before .before .before .before .before .before .before .args .file .now
 
 abbrev limits : tie.After-after-task → Limits
-limits t = t .before .before .before .before .before .before .before .before .before .before .before .before .before .args .limits
+limits t = t .before .before .before .before .before .before .before .before .before .before .before .before .before .before .args .limits
 
 -- the version, and the head that is read by it
 abbrev version : tie.After-after-task → ℕ
-version t = t .before .before .before .before .byte-at .result
+version t = t .before .before .before .before .before .byte-at .result
 
 abbrev head : tie.After-after-task → TaskHead
 head t = t .before .before .task-head .result
 
 actions-are : (t : tie.After-after-task) → head t .actions ≡ numberAt 2 (bytes t) (actionCountAt (version t))
-actions-are t = head-actions (bytes t) _ _ (t .before .before .before .goal-span .ensures) (t .before .before .task-head .ensures)
+actions-are t =
+    let h = t .before .before in
+    head-actions (bytes t) _ _ _ (h .before .before .goal-span .ensures) (h .before .off-size .ensures) (h .task-head .ensures)
 
 goal-is : (t : tie.After-after-task) → head t .goal ≡ numberAt 8 (bytes t) (goalAt (version t))
-goal-is t = head-goal (bytes t) _ _ (t .before .before .before .goal-span .ensures) (t .before .before .task-head .ensures)
+goal-is t =
+    let h = t .before .before in
+    head-goal (bytes t) _ _ _ (h .before .before .goal-span .ensures) (h .before .off-size .ensures) (h .task-head .ensures)
 
 -- a section's count is within the file
 ends : (c : tie.After-u16-at3)
-    → let x = c .before .before .before .before .before .rest2 .given in (x .0 .0 + 2 ≤ 65536) × (x .0 .1 .0 + 2 ≤ 65536)
+    → let x = c .before .before .before .before .before .rest2 .given in
+    (c .before .before .before .before .before .before .before .before .after-actions .result + 2 ≤ 65536)
+    × (x .0 .0 + 2 ≤ 65536) × (x .0 .1 .0 + 2 ≤ 65536)
 ends c =
     let t = c .before .before .before .before .before .before .before in
-    let h = short (t .before .before .before .before .before .before .before .before) in
+    let h = short (t .before .before .before .before .before .before .before .before .before) in
     let r = rest-ends (limits t) (bytes t) (head t .facts) (head t .actions) _
     (c .before .before .before .before .before .rest2 .given .1) (t .after-task .ensures) in
-    (omega (arith, h, r .0), omega (arith, h, r .1))
-
-first-fits : tie.Need-add-t29
-unfolding actionSize
-first-fits c =
-    let t = c .before .before .before .before .before .before .before in
-    let o = places (version t) in
-    let e = after-actions (version t) (head t .actions) in
-    record { fits = omega (arith, t .before .after-actions .ensures) }
+    (omega (arith, h, r .0), omega (arith, h, r .1), omega (arith, h, r .2))
 
 returns-4 : tie.Need-returns-4
 returns-4 c =
     let t = c .before .before .before in
-    let e = t .before .before .before .before .before .before .before .before in
-    let v = t .before .before .before .before in
+    let e = t .before .before .before .before .before .before .before .before .before in
+    let v = t .before .before .before .before .before in
     rest-bad (limits t) (bytes t) (e .before .before .before .is-whole .ensures) (e .before .if1 .left) refl (e .if2 .left)
     (v .before .enum-told .given .1) (v .before .before .before .task .ensures) (v .byte-at .ensures)
     (λ i. t .before .before .task-head .ensures i .facts) (actions-are t) (t .before .after-actions .ensures)
@@ -91,13 +88,13 @@ returns-4 c =
 returns-5 : tie.Need-returns-5
 returns-5 c =
     let t = c .before .before .before .before .before .before .before in
-    let e = t .before .before .before .before .before .before .before .before in
+    let e = t .before .before .before .before .before .before .before .before .before in
     let head! = t .before .before .task-head in
-    let v = t .before .before .before .before in
+    let v = t .before .before .before .before .before in
     lawful (limits t) (bytes t) (e .before .before .before .is-whole .ensures) (e .before .if1 .left) refl (e .if2 .left)
     (v .before .enum-told .given .1) (v .before .before .before .task .ensures) (v .byte-at .ensures)
     (λ i. head! .ensures i .facts) (actions-are t) (t .before .after-actions .ensures)
-    (λ i. head! .ensures i .init) (c .before .before .before .unknown .ensures) (goal-is t)
+    (λ i. head! .ensures i .init) (goal-is t) (c .before .before .before .ends .ensures)
     (c .before .before .u16-at .ensures) (c .before .u16-at2 .ensures) (c .u16-at3 .ensures)
     (c .before .before .before .before .before .rest2 .given .1) (t .after-task .ensures)
 
@@ -117,7 +114,8 @@ read-layout-spec =
     (λ c κs. search needs)
     (λ c κs. search needs)
     (λ c κs. search needs)
-    (λ c κs. short (c .before .before .before .before .before .before .before))
+    (λ c κs. search needs)
+    (λ c κs. short (c .before .before .before .before .before .before .before .before))
     (λ c. search needs)
     (λ c. search needs)
     (λ c κs. search needs)
@@ -127,8 +125,8 @@ read-layout-spec =
     (λ c κs. search needs)
     (λ c. search needs)
     (λ c κs. search needs)
-    first-fits
     (λ c. let e = ends c .0 in search needs)
     (λ c. let e = ends c .1 in search needs)
+    (λ c. let e = ends c .2 in search needs)
     returns-4
     returns-5)

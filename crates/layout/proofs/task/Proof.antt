@@ -2,11 +2,12 @@
 -- Assumes nothing.
 use mathlib.Core.Path.{_≡_, ap, ap₂, _∙_}
 use Prim.Native.Nat.{ℕ, _+_, _*_, _/_, _^_, _≤_}
+use native.Mathlib.Nat.{mul-le-mul-right}
 use native.Mathlib.Omega.{arith}
 use mathlib.Core.List.{List}
 use lib.ListN.{length}
 use Rattle.bytes.specs.Numbers.{numberAt}
-use Rattle.meaning.specs.Layout.{items, count, mask, goalAt, actionCountAt}
+use Rattle.meaning.specs.Layout.{items, count, mask, goalAt, offSize, actionCountAt, actionSize}
 use Rattle.meaning.proofs.Places.{places}
 use Rattle.bodies.specs.Faults.{fault}
 use Rattle.layout.proofs.RowLaws.{masks-told}
@@ -21,38 +22,40 @@ use Rattle.layout.proofs.task.Tie as tie
 -- ---- what is known once the head is read
 
 abbrev bytes : tie.After-task-head → List ℕ
-bytes h = h .before .before .before .before .before .before .before .args .file .now
+bytes h = h .before .before .before .before .before .before .before .before .args .file .now
 
 short : (h : tie.After-task-head) → length (bytes h) ≤ 65536
-short h = h .before .before .before .before .before .before .before .pre
+short h = h .before .before .before .before .before .before .before .before .pre
 
 abbrev version : tie.After-task-head → ℕ
-version h = h .before .before .byte-at .result
+version h = h .before .before .before .byte-at .result
 
 abbrev facts : tie.After-task-head → ℕ
 facts h = h .task-head .result .facts
 
 opened : (h : tie.After-task-head) → Opened (bytes h) (version h) (facts h)
 opened h =
-    let v = h .before .before in
+    let v = h .before .before .before in
     opened-well (bytes h) (v .before .enum-told .given .1) (v .before .before .before .opening .ensures) (v .byte-at .ensures)
     (λ i. h .task-head .ensures i .facts)
 
 actions-are : (h : tie.After-task-head) → h .task-head .result .actions ≡ numberAt 2 (bytes h) (actionCountAt (version h))
-actions-are h = head-actions (bytes h) _ _ (h .before .goal-span .ensures) (h .task-head .ensures)
+actions-are h =
+    head-actions (bytes h) _ _ _ (h .before .goal-span .ensures) (h .before .before .off-size .ensures) (h .task-head .ensures)
 
--- ---- the start, the goal's mask behind it, and the count of the actions
+-- ---- the start, the goal's masks behind it, and the count of the actions
 
 started : (g : tie.After-goal-at) → let h = g .before .before .before .before in Started (bytes h) (version h) (facts h)
 started g =
     let s = g .before .before .before in started-well _ (opened (s .before)) (g .before .enum-told2 .given .1) (s .start .ensures)
 
 goal-said : (m : tie.After-walk) → let h = m .before .before .before .before .before in
-    m .walk .result .fault ≡ fault (items (mask (bytes h) (facts h)) 8 (goalAt (version h)) 1)
+    m .walk .result .fault ≡ fault (items (mask (bytes h) (facts h)) 8 (goalAt (version h)) (1 + offSize (version h) / 8))
 goal-said m =
     let h = m .before .before .before .before .before in
-    masks-told (bytes h) (facts h) 1 _ (m .walk .ensures)
-    ∙ ap (λ (p : ℕ). fault (items (mask (bytes h) (facts h)) 8 p 1)) (m .before .goal-at .ensures)
+    masks-told (bytes h) (facts h) _ _ (m .walk .ensures)
+    ∙ ap₂ (λ (p o : ℕ). fault (items (mask (bytes h) (facts h)) 8 p (1 + o / 8))) (m .before .goal-at .ensures)
+    (h .before .before .off-size .ensures)
 
 aimed : (k : tie.After-action-count-at)
     → let h = k .before .before .before .before .before .before .before .before in Aimed (bytes h) (version h) (facts h)
@@ -86,21 +89,24 @@ returns-3 c = let m = c .before .before .before in goal-refused _ (started (m .b
 returns-4 : tie.Need-returns-4
 returns-4 c = let k = c .before .before .before in count-refused _ (aimed (k .before)) (c .before .x .given .1) (count-said k)
 
--- an action is three masks
+-- an action is so many masks
 masks-are : (z : tie.After-action-size)
     → let h = z .before .before .before .before .before .before .before .before .before .before .before .before in
-    z .action-size .result / 2 ^ 3 * h .task-head .result .actions ≡ 3 * h .task-head .result .actions
+    z .action-size .result / 2 ^ 3 * h .task-head .result .actions ≡ actionSize (version h) / 8 * h .task-head .result .actions
 masks-are z =
     let h = z .before .before .before .before .before .before .before .before .before .before .before .before in
-    ap (λ (k : ℕ). k / 2 ^ 3 * h .task-head .result .actions) (z .action-size .ensures ∙ places (version h) .size)
+    ap (λ (k : ℕ). k / 8 * h .task-head .result .actions) (z .action-size .ensures)
 
--- a file with at most 256 actions has at most 768 masks of them
+-- a file with at most 256 actions has at most 1,024 masks of them
 mul-masks : tie.Need-mul-masks
 mul-masks c =
     let k = c .before .before .before .before in
     let h = k .before .before .before .before .before .before .before .before .before in
     let l = count-few (bytes h) 0 256 _ (c .before .before .enum-told4 .given .1) (count-said k) (actions-are h) in
     let e = masks-are (c .before) in
+    let o = places (version h) in
+    let few : actionSize (version h) / 8 ≤ 4 = omega arith in
+    let m = mul-le-mul-right (h .task-head .result .actions) few in
     record { fits = omega arith }
 
 add-walk : tie.Need-add-walk
@@ -137,9 +143,12 @@ task-spec =
     (λ c κs. search needs)
     (λ c κs. search needs)
     (λ c κs. search needs)
+    (λ c κs. search needs)
     start-requires
     (λ c. search needs)
     returns-2
+    (λ c. search needs)
+    (λ c. search needs)
     (λ c. search needs)
     (λ c κs. search needs)
     walk-requires
