@@ -158,7 +158,7 @@ fn lists_at_the_limits() {
     let mut random = Random::new(14);
     let mut d = reference::draft::sample();
     (d.facts, d.goal) = (14, 1 << 13);
-    d.actions = vec![Action { pre: 0, add: 0, del: 3 }];
+    d.actions = vec![Action { pre: 0, add: 0, del: 3, ..Action::NOTHING }];
     for (limit, past) in [(512, 19 << 32), (4096, 4 << 32)] {
         for different in [1, 2, 300, limit - 1, limit] {
             for count in [limit - 1, limit, limit + 1] {
@@ -271,7 +271,7 @@ fn order_of_16() {
 fn wide(unknown: u32, rule: u8, left: u16, right: u16) -> Vec<u8> {
     let mask = reference::task::all_facts(unknown as u8) << 1;
     let mut d = Draft { facts: 64, goal: 1, ..second(0, mask) };
-    d.actions = vec![Action { pre: 0, add: 0, del: 2 }];
+    d.actions = vec![Action { pre: 0, add: 0, del: 2, ..Action::NOTHING }];
     d.state_sets[3] = DraftSet::Horn(vec![reference::file::Clause { positive: 0, negative: 1 }]);
     d.state_sets.extend([
         DraftSet::Explicit(vec![0, mask & 2]),

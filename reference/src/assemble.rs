@@ -24,23 +24,31 @@ pub fn parse(text: &str) -> Result<Draft, String> {
 /// The draft of a text, and the names of its facts and actions.
 pub fn parse_named(text: &str) -> Result<(Draft, Names), String> {
     let (mut draft, mut names) = (Draft::default(), Names::default());
-    let mut unknown_line = None;
-    for (number, line) in text.lines().enumerate() {
+    let [mut unknown, mut off] = [None; 2];
+    for (line, number) in text.lines().zip(1..) {
         let line = line.split('#').next().unwrap_or("");
         let words = tokens(line);
         if !words.is_empty() {
             let mut line = Line { words: &words, at: 0, names: &mut names };
-            line.read(&mut draft).map_err(|why| format!("line {}: {why}", number + 1))?;
-            if words[0] == "unknown" {
-                unknown_line = Some(number + 1);
-            }
+            line.read(&mut draft).map_err(|why| format!("line {number}: {why}"))?;
         }
+        // Neither word can be a name.
+        let has = |word: &str| words.iter().any(|other| other == word);
+        unknown = unknown.or(has("unknown").then_some(number));
+        off = off.or(has("off").then_some(number));
     }
-    match unknown_line {
-        Some(line) if Places::of(draft.version).unknown.is_none() => {
-            Err(format!("line {line}: version {} has no unknown facts; 'version 2' has", draft.version))
-        }
-        _ => Ok((draft, names)),
+    check_version(draft.version, unknown, off)?;
+    Ok((draft, names))
+}
+
+/// Masks are for versions that have them: the first lines with unknown facts and with facts needed off, where there are any.
+fn check_version(version: u8, unknown: Option<usize>, off: Option<usize>) -> Result<(), String> {
+    let places = Places::of(version);
+    let lacks = |line, what: &str| Err(format!("line {line}: version {version} has no {what}"));
+    match (unknown, off) {
+        (Some(line), _) if places.unknown.is_none() => lacks(line, "unknown facts; 'version 2' has"),
+        (_, Some(line)) if !places.has_off() => lacks(line, "facts that are needed off; 'version 3' has"),
+        _ => Ok(()),
     }
 }
 
@@ -96,7 +104,7 @@ impl<'a> Line<'a> {
             "fact" => self.fact_name()?,
             "init" => draft.init = self.mask()?,
             "unknown" => draft.unknown = self.mask()?,
-            "goal" => draft.goal = self.mask()?,
+            "goal" => (draft.goal, draft.goal_off) = (self.mask()?, self.off()?),
             "action" => {
                 let number = self.in_turn(draft.actions.len())?;
                 draft.actions.push(self.action(number)?);
@@ -185,6 +193,17 @@ impl<'a> Line<'a> {
         }
     }
 
+    /// The facts that are needed off, none where the line does not say.
+    fn off(&mut self) -> Parsed<u64> {
+        match self.peek() {
+            Some("off") => {
+                self.at += 1;
+                self.mask()
+            }
+            _ => Ok(0),
+        }
+    }
+
     /// An action, its name first where it has one.
     fn action(&mut self, number: usize) -> Parsed<Action> {
         if self.peek() != Some("pre") {
@@ -197,7 +216,7 @@ impl<'a> Line<'a> {
         self.expect("add")?;
         let add = self.mask()?;
         self.expect("del")?;
-        Ok(Action { pre, add, del: self.mask()? })
+        Ok(Action { pre, add, del: self.mask()?, off: self.off()? })
     }
 
     /// Actions up to the end of the line, given by their numbers or names.

@@ -55,7 +55,10 @@ impl Conditions {
                     all.on |= file.task.init;
                     all.off |= file.task.init_off();
                 }
-                StateSet::Goal => all.on |= file.task.goal,
+                StateSet::Goal => {
+                    all.on |= file.task.goal;
+                    all.off |= file.task.goal_off;
+                }
                 StateSet::Horn(span) | StateSet::TwoCnf(span) => {
                     let clauses = span.of(&file.clauses).iter().copied();
                     all.clauses.extend(clauses.filter(|c| c.positive & c.negative == 0));
@@ -74,7 +77,7 @@ fn right_clauses(task: &Task, file: &File, set: StateSet) -> Vec<Clause> {
     let off = |bit| Clause { positive: 0, negative: bit };
     match set {
         StateSet::Init => facts(task.init).map(on).chain(facts(task.init_off()).map(off)).collect(),
-        StateSet::Goal => facts(task.goal).map(on).collect(),
+        StateSet::Goal => facts(task.goal).map(on).chain(facts(task.goal_off).map(off)).collect(),
         StateSet::Horn(span) | StateSet::TwoCnf(span) => span.of(&file.clauses).to_vec(),
         _ => Vec::new(),
     }
@@ -142,7 +145,7 @@ impl Problem {
         let same = !(action.add | action.del);
         let known = Known {
             on: action.pre | self.before.on | self.after.on & same,
-            off: self.beyond | self.before.off | self.after.off & same,
+            off: self.beyond | action.off | self.before.off | self.after.off & same,
         };
         (known.on & known.off == 0).then_some(known)
     }

@@ -36,6 +36,8 @@ pub struct Draft {
     /// Written only where the version has such a mask.
     pub unknown: u64,
     pub goal: u64,
+    /// Written only where the version has such a mask, as is `off` of an action.
+    pub goal_off: u64,
     pub actions: Vec<Action>,
     pub action_sets: Vec<DraftActions>,
     pub state_sets: Vec<DraftSet>,
@@ -50,6 +52,7 @@ impl Default for Draft {
             init: 0,
             unknown: 0,
             goal: 0,
+            goal_off: 0,
             actions: Vec::new(),
             action_sets: Vec::new(),
             state_sets: Vec::new(),
@@ -112,13 +115,17 @@ impl Draft {
     pub fn encode(&self) -> Vec<u8> {
         let mut bytes = vec![0, 0, 0, 0, self.version, self.facts];
         bytes.extend(self.init.to_be_bytes());
-        if Places::of(self.version).unknown.is_some() {
+        let places = Places::of(self.version);
+        if places.unknown.is_some() {
             bytes.extend(self.unknown.to_be_bytes());
         }
         bytes.extend(self.goal.to_be_bytes());
+        if places.has_off() {
+            bytes.extend(self.goal_off.to_be_bytes());
+        }
         put_count(&mut bytes, self.actions.len());
-        for action in &self.actions {
-            for mask in [action.pre, action.add, action.del] {
+        for Action { pre, add, del, off } in &self.actions {
+            for mask in &[*pre, *add, *del, *off][..places.masks.len()] {
                 bytes.extend(mask.to_be_bytes());
             }
         }
@@ -145,6 +152,7 @@ impl Draft {
             init: file.task.init,
             unknown: file.task.unknown,
             goal: file.task.goal,
+            goal_off: file.task.goal_off,
             actions: file.task.actions.clone(),
             action_sets: file.action_sets.iter().map(|set| open_actions(set.kind, set.marks)).collect(),
             state_sets: file.state_sets.iter().map(|set| open_set(file, *set)).collect(),
@@ -199,7 +207,10 @@ pub fn sample() -> Draft {
         facts: 2,
         init: 0,
         goal: 3,
-        actions: vec![Action { pre: 0, add: 1, del: 2 }, Action { pre: 0, add: 2, del: 1 }],
+        actions: vec![
+            Action { pre: 0, add: 1, del: 2, ..Action::NOTHING },
+            Action { pre: 0, add: 2, del: 1, ..Action::NOTHING },
+        ],
         action_sets: vec![DraftActions::All],
         state_sets: vec![
             DraftSet::Empty,

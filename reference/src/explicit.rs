@@ -3,7 +3,7 @@
 
 use crate::file::{marked_actions, File, StateSet};
 use crate::shape::{is_listed, Bracket, Leaves, Statement};
-use crate::task::{Action, State};
+use crate::task::{Ready, State};
 
 /// Whether the statement holds over all states.
 pub fn holds(file: &File, st: &Statement) -> bool {
@@ -21,7 +21,7 @@ pub fn holds(file: &File, st: &Statement) -> bool {
 /// Whether no counterexample begins with one of these states, which are those of a leaf.
 fn holds_from(file: &File, st: &Statement, states: impl Iterator<Item = State> + Clone) -> bool {
     match st.bracket {
-        Bracket::None => !leads_outside(file, st, &Action::NOTHING, states),
+        Bracket::None => !leads_outside(file, st, &Ready::NOTHING, states),
         Bracket::Progression(marks) => {
             let others = st.inside.all().len() > 1;
             let within = |s: &State| !others || in_all(file, &st.inside, *s);
@@ -38,7 +38,7 @@ fn holds_from(file: &File, st: &Statement, states: impl Iterator<Item = State> +
 
 /// Whether the action leads from one of the states to a counterexample. Where a state goes
 /// to is looked for next to where the one before it went.
-fn leads_outside(file: &File, st: &Statement, a: &Action, states: impl Iterator<Item = State>) -> bool {
+fn leads_outside(file: &File, st: &Statement, a: &Ready, states: impl Iterator<Item = State>) -> bool {
     let mut near = 0;
     let listed = match st.right.all().first() {
         Some(StateSet::Explicit(states)) => file.ascending(*states),
@@ -78,8 +78,9 @@ fn find(list: &[State], guess: usize, state: State) -> Option<usize> {
     None
 }
 
-fn chosen(file: &File, marks: crate::file::Marks) -> Vec<Action> {
-    marked_actions(marks).map(|a| file.task.actions[a]).collect()
+/// The marked actions that apply somewhere.
+fn chosen(file: &File, marks: crate::file::Marks) -> Vec<Ready> {
+    marked_actions(marks).filter_map(|a| Ready::of(&file.task.actions[a])).collect()
 }
 
 fn in_all(file: &File, leaves: &Leaves, state: State) -> bool {

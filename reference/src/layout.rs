@@ -144,12 +144,21 @@ impl<'a> Reader<'a> {
             self.file.task.unknown = self.unknown()?;
         }
         self.file.task.goal = self.mask(Item::Field("goal"))?;
+        if Places::of(version).has_off() {
+            self.file.task.goal_off = self.mask(Item::Field("goal off mask"))?;
+        }
+        self.actions(version)
+    }
+
+    fn actions(&mut self, version: u8) -> Read<()> {
+        let has_off = Places::of(version).has_off();
         let count = self.count("action count", 0, MAX_ACTIONS)?;
         for a in 0..count as u16 {
             let pre = self.mask(Item::Mask(a, "pre"))?;
             let add = self.mask(Item::Mask(a, "add"))?;
             let del = self.mask(Item::Mask(a, "del"))?;
-            self.file.task.actions.push(Action { pre, add, del });
+            let off = if has_off { self.mask(Item::Mask(a, "off"))? } else { 0 };
+            self.file.task.actions.push(Action { pre, add, del, off });
         }
         Ok(())
     }

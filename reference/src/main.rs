@@ -5,9 +5,11 @@ use std::io::{self, BufRead, BufWriter, Read, Write};
 use std::process::ExitCode;
 
 use reference::draw::{draw, Graph};
-use reference::generate::limits::workload;
+use reference::generate::limits::{workload, WORKLOADS};
 use reference::generate::listed::listed;
 use reference::generate::numbered::numbered;
+use reference::generate::off::off;
+use reference::generate::older::{older, unchanged};
 use reference::generate::random::Random;
 use reference::generate::relisted::{alike, relisted};
 use reference::generate::rounds::rounds;
@@ -23,8 +25,8 @@ use reference::{
 
 const USAGE: &str = "usage: reference check [--numbers LIST | --small] FILE | round FILE FROM COUNT | ask FILE ENTRY STATE | \
 gen SEED COUNT | numbered SEED COUNT | rounds SEED COUNT | small SEED COUNT | listed SEED COUNT | unknown SEED COUNT | \
-relisted SEED COUNT | twins SEED COUNT | damaged FILE SEED COUNT | replies | records | alike CASES REPLIES | twinned CASES REPLIES | \
-assemble TEXTFILE | names TEXTFILE | show [--numbers LIST] FILE [NAMES] | explain [--numbers LIST | --small] FILE [NAMES] | \
+off SEED COUNT | relisted SEED COUNT | twins SEED COUNT | older SEED COUNT | damaged FILE SEED COUNT | replies | records | \
+alike CASES REPLIES | twinned CASES REPLIES | unchanged CASES REPLIES | assemble TEXTFILE | names TEXTFILE | show [--numbers LIST] FILE [NAMES] | explain [--numbers LIST | --small] FILE [NAMES] | \
 draw FILE [table|steps] [NAMES] | cost FILE | renumber LIST FILE | workload NUMBER SEED   \
 (FILE may be - for standard input; LIST is numbers with commas or spaces between, or a file of bytes)";
 
@@ -119,6 +121,8 @@ fn run(words: &[&str]) -> Result<(), Stop> {
         ["small", seed, count] => write_lines(&mut out, small(number(seed)?, number(count)?))?,
         ["listed", seed, count] => write_lines(&mut out, listed(number(seed)?, number(count)?))?,
         ["unknown", seed, count] => write_lines(&mut out, unknown(number(seed)?, number(count)?))?,
+        ["off", seed, count] => write_lines(&mut out, off(number(seed)?, number(count)?))?,
+        ["older", seed, count] => write_lines(&mut out, older(number(seed)?, number(count)?))?,
         ["twins", seed, count] => write_lines(&mut out, twins(number(seed)?, number(count)?))?,
         ["relisted", seed, count] => write_lines(&mut out, relisted(number(seed)?, number(count)?))?,
         ["damaged", file, seed, count] => {
@@ -142,6 +146,10 @@ fn run(words: &[&str]) -> Result<(), Stop> {
             let differ = "the second file is to be the first in version 2, with no unknown fact";
             compare_pairs(&read(cases)?, &read_text(replies)?, twinned, differ)?;
         }
+        ["unchanged", cases, replies] => {
+            let differ = "the second file is to be the first in version 3, with no fact needed off";
+            compare_pairs(&read(cases)?, &read_text(replies)?, unchanged, differ)?;
+        }
         ["assemble", file] => {
             out.write_all(&assemble::assemble(&read_text(file)?).map_err(Stop::Message)?)?;
         }
@@ -158,7 +166,7 @@ fn run(words: &[&str]) -> Result<(), Stop> {
         }
         ["workload", which, seed] => {
             let which = number(which)?;
-            if !(1..=7).contains(&which) {
+            if !WORKLOADS.contains(&(which as usize)) {
                 return Err(Stop::Usage);
             }
             let draft = workload(&mut Random::new(number(seed)?), which as usize);
@@ -290,7 +298,7 @@ fn cases_of(lines: impl BufRead) -> impl Iterator<Item = Result<Case, Stop>> {
     })
 }
 
-/// Each two cases are a pair that `relisted` or `twins` wrote; the first one whose replies do not fit is told.
+/// Each two cases are a pair that `relisted`, `twins` or `older` wrote; the first one whose replies do not fit is told.
 fn compare_pairs(
     cases: &[u8],
     replies: &str,

@@ -7,7 +7,7 @@ use std::fmt;
 use crate::task::Task;
 
 /// The words of the text form, which cannot be names. Rule names are none of them: they never stand where a name may.
-const KEYWORDS: [&str; 23] = [
+const KEYWORDS: [&str; 24] = [
     "version",
     "facts",
     "fact",
@@ -21,6 +21,7 @@ const KEYWORDS: [&str; 23] = [
     "pre",
     "add",
     "del",
+    "off",
     "all",
     "list",
     "empty",
@@ -53,6 +54,22 @@ impl Names {
     pub fn facts_of(&self, mask: u64) -> String {
         let facts = (0..64).filter(|f| mask >> f & 1 == 1);
         format!("{{{}}}", facts.map(|f| self.fact(f)).collect::<Vec<_>>().join(" "))
+    }
+
+    /// Facts on and facts off, as far as there are any, `{charge_closed} on and {1} off`.
+    pub fn on_and_off(&self, on: u64, off: u64) -> String {
+        let parts = [(on, "on"), (off, "off")].into_iter().filter(|(facts, _)| *facts != 0);
+        let parts = parts.map(|(facts, word)| format!("{} {word}", self.facts_of(facts)));
+        parts.collect::<Vec<_>>().join(" and ")
+    }
+
+    /// What a goal state has on and off; where it wants no fact, `{} on`.
+    pub fn goal(&self, on: u64, off: u64) -> String {
+        match on | off {
+            0 => "{} on".into(),
+            _ if on & off != 0 => format!("{}, which no state has", self.on_and_off(on, off)),
+            _ => self.on_and_off(on, off),
+        }
     }
 
     /// The fact of a name.

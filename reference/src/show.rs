@@ -68,13 +68,9 @@ fn whole_text(draft: &Draft, lacked: &Lacked, names: &Names) -> String {
 }
 
 fn write_task(out: &mut String, draft: &Draft, names: &Names) -> std::fmt::Result {
-    for (_, line) in head_lines(draft, names) {
-        writeln!(out, "{line}")?;
-    }
-    for (a, action) in draft.actions.iter().enumerate() {
-        writeln!(out, "{}", action_line(a, action, names))?;
-    }
-    Ok(())
+    let head = head_parts(draft, names).into_iter().map(|(_, part)| part);
+    writeln!(out, "{}", head.collect::<String>())?;
+    (0..draft.actions.len()).try_for_each(|a| writeln!(out, "{}", action_line(draft, a, names)))
 }
 
 fn write_certificate(out: &mut String, draft: &Draft, lacked: &Lacked, names: &Names) -> std::fmt::Result {
@@ -94,24 +90,27 @@ fn joined(items: impl Iterator<Item = String>) -> String {
     items.collect::<Vec<String>>().join(" ")
 }
 
-/// The version, where it is not 1, the facts with their names, init, the unknown facts, where the version has them, and the goal: each
-/// with the name of its field.
-pub fn head_lines(draft: &Draft, names: &Names) -> Vec<(&'static str, String)> {
-    let named = names.facts.iter().map(|(fact, name)| format!("\nfact {fact} {name}"));
+/// The version, where it is not 1, the facts with their names, init, the unknown facts, the goal and its facts that are off, as far as
+/// the version has them: each with the name of its field. They are one text; its last line, the goal's, is not ended.
+pub fn head_parts(draft: &Draft, names: &Names) -> Vec<(&'static str, String)> {
+    let named = names.facts.iter().map(|(fact, name)| format!("fact {fact} {name}\n"));
     let init = if names.facts.is_empty() { state(draft.init) } else { names.facts_of(draft.init) };
-    let mut lines = vec![
-        ("version", format!("version {}", draft.version)),
-        ("fact count", format!("facts {}{}", draft.facts, named.collect::<String>())),
-        ("init", format!("init {init}")),
-        ("unknown mask", format!("unknown {}", names.facts_of(draft.unknown))),
+    let mut parts = vec![
+        ("version", format!("version {}\n", draft.version)),
+        ("fact count", format!("facts {}\n{}", draft.facts, named.collect::<String>())),
+        ("init", format!("init {init}\n")),
+        ("unknown mask", format!("unknown {}\n", names.facts_of(draft.unknown))),
         ("goal", format!("goal {}", names.facts_of(draft.goal))),
+        ("goal off mask", format!(" off {}", names.facts_of(draft.goal_off))),
     ];
-    lines.retain(|(field, _)| match *field {
+    let places = Places::of(draft.version);
+    parts.retain(|(field, _)| match *field {
         "version" => draft.version != 1,
-        "unknown mask" => Places::of(draft.version).unknown.is_some(),
+        "unknown mask" => places.unknown.is_some(),
+        "goal off mask" => places.has_off(),
         _ => true,
     });
-    lines
+    parts
 }
 
 /// An action by its number and its name, where it has one, `action 1 close_load`.
@@ -120,10 +119,12 @@ pub fn action_title(a: usize, names: &Names) -> String {
     format!("action {a}{}", name.map_or(String::new(), |name| format!(" {name}")))
 }
 
-/// An action with its masks, `action 1 pre {} add {1} del {0}`.
-pub fn action_line(a: usize, action: &Action, names: &Names) -> String {
-    let [pre, add, del] = [action.pre, action.add, action.del].map(|mask| names.facts_of(mask));
-    format!("{} pre {pre} add {add} del {del}", action_title(a, names))
+/// An action with the masks that the version has, `action 1 pre {} add {1} del {0} off {2}`.
+pub fn action_line(draft: &Draft, a: usize, names: &Names) -> String {
+    let Action { pre, add, del, off } = draft.actions[a];
+    let masks = Places::of(draft.version).masks.iter().zip([pre, add, del, off]);
+    let masks = masks.map(|(name, mask)| format!(" {name} {}", names.facts_of(mask)));
+    format!("{}{}", action_title(a, names), masks.collect::<String>())
 }
 
 /// A word and the first `most` items of a list; where there are more, how many `things` the list holds.

@@ -1,6 +1,6 @@
 //! The planning task: facts, states, actions, and what an action does to a state.
-//! Document 01 says table for task, event for action, needs, sets and clears for
-//! pre, add and del, start for init, forbidden mask for goal.
+//! The documents say table for task, event for action, needs, sets, clears and needs-off for
+//! pre, add, del and off, start for init, forbidden and forbidden-off mask for goal and goal_off.
 
 /// A set of facts; fact f is the bit of weight 2 to the power f.
 pub type State = u64;
@@ -10,21 +10,68 @@ pub struct Action {
     pub pre: u64,
     pub add: u64,
     pub del: u64,
+    /// The facts that have to be off before it (document 02, j); versions 1 and 2 have none.
+    pub off: u64,
 }
 
 impl Action {
     /// Applies everywhere and changes nothing.
-    pub const NOTHING: Action = Action { pre: 0, add: 0, del: 0 };
+    pub const NOTHING: Action = Action { pre: 0, add: 0, del: 0, off: 0 };
 
+    /// Whether all facts of `pre` are on and all of `off` are off.
     #[inline]
     pub fn applies(&self, state: State) -> bool {
-        state & self.pre == self.pre
+        meets(state, self.pre, self.off)
+    }
+
+    /// Whether it applies nowhere: it needs a fact both on and off.
+    #[inline]
+    pub fn never_applies(&self) -> bool {
+        self.pre & self.off != 0
     }
 
     /// Deletes first, then adds: a fact in both ends on.
     #[inline]
     pub fn after(&self, state: State) -> State {
         (state & !self.del) | self.add
+    }
+}
+
+/// Whether all of the facts `on` are on and all of the facts `off` are off.
+#[inline]
+fn meets(state: State, on: u64, off: u64) -> bool {
+    state & on == on && state & off == 0
+}
+
+/// An action made ready for many states: one look tells whether it applies.
+#[derive(Clone, Copy, Debug, PartialEq, Eq)]
+pub struct Ready {
+    /// The facts that it needs on or off.
+    looks: u64,
+    pre: u64,
+    keeps: u64,
+    add: u64,
+}
+
+impl Ready {
+    /// Applies everywhere and changes nothing.
+    pub const NOTHING: Ready = Ready { looks: 0, pre: 0, keeps: u64::MAX, add: 0 };
+
+    /// None for an action that never applies.
+    pub fn of(action: &Action) -> Option<Ready> {
+        let Action { pre, add, del, off } = *action;
+        (!action.never_applies()).then_some(Ready { looks: pre | off, pre, keeps: !del, add })
+    }
+
+    #[inline]
+    pub fn applies(&self, state: State) -> bool {
+        state & self.looks == self.pre
+    }
+
+    /// As `Action::after`.
+    #[inline]
+    pub fn after(&self, state: State) -> State {
+        (state & self.keeps) | self.add
     }
 }
 
@@ -38,13 +85,16 @@ pub struct Task {
     pub init: State,
     /// The facts that may be on or off in an initial state (document 02, d); init has none of them, and version 1 has none at all.
     pub unknown: u64,
+    /// The facts that are on in every goal state.
     pub goal: u64,
+    /// The facts that are off in every goal state (document 02, j); versions 1 and 2 have none.
+    pub goal_off: u64,
     pub actions: Vec<Action>,
 }
 
 impl Default for Task {
     fn default() -> Task {
-        Task { version: 1, facts: 0, init: 0, unknown: 0, goal: 0, actions: Vec::new() }
+        Task { version: 1, facts: 0, init: 0, unknown: 0, goal: 0, goal_off: 0, actions: Vec::new() }
     }
 }
 
@@ -57,7 +107,7 @@ impl Task {
 
     #[inline]
     pub fn is_goal(&self, state: State) -> bool {
-        state & self.goal == self.goal
+        meets(state, self.goal, self.goal_off)
     }
 
     /// Whether the state agrees with init on all known facts.

@@ -46,7 +46,7 @@ fn layout(number: u8, item: Item) -> String {
     let named = name(item);
     match (number, item) {
         (1, _) => "the file is under 4 or over 65536 bytes, or its length field is wrong".into(),
-        (2, _) => "the version is neither 1 nor 2".into(),
+        (2, _) => "the version is none of 1, 2 and 3".into(),
         (3, Item::Rest) => "bytes are left over".into(),
         (3, _) => format!("{named} runs past the end"),
         (4, Item::EntryLength(..)) => format!("{named} does not fit its kind"),

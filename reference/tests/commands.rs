@@ -169,14 +169,39 @@ fn twins_and_their_replies() {
         "{said}"
     );
     std::fs::remove_file(&room).expect("the file goes");
-    let unknown = printed(&["unknown", "4", "30"], b"");
-    assert_eq!(printed(&["replies"], unknown.as_bytes()).lines().count(), 30);
+    for masks in ["unknown", "off"] {
+        let cases = printed(&[masks, "4", "30"], b"");
+        assert_eq!(printed(&["replies"], cases.as_bytes()).lines().count(), 30);
+    }
+}
+
+/// Older files and the same in version 3, and replies that are the same or not; a pair that is none is told too.
+#[test]
+fn older_files_and_their_replies() {
+    let cases = printed(&["older", "4", "40"], b"");
+    let replies = printed(&["replies"], cases.as_bytes());
+    let room = std::env::temp_dir().join(format!("older-{}", std::process::id()));
+    std::fs::write(&room, &cases).expect("a file");
+    let path = room.to_str().expect("a plain name");
+    assert_eq!(printed(&["unchanged", path, "-"], replies.as_bytes()), "");
+    let mut lines: Vec<&str> = replies.lines().collect();
+    assert_eq!(lines.len(), 80);
+    let reply = std::mem::replace(&mut lines[79], "refused 11 1000");
+    let (status, said) = stopped(&["unchanged", path, "-"], lines.join("\n").as_bytes());
+    let told = format!("reference: lines 79 and 80: '{reply}' and 'refused 11 1000', where ");
+    assert!(status == Some(1) && said.starts_with(&told), "{said}");
+    let turned: Vec<&str> = cases.lines().rev().collect();
+    std::fs::write(&room, turned.join("\n")).expect("a file");
+    let (status, said) = stopped(&["unchanged", path, "-"], replies.as_bytes());
+    let told = "the second file is to be the first in version 3, with no fact needed off\n";
+    assert!(status == Some(1) && said.ends_with(told), "{said}");
+    std::fs::remove_file(&room).expect("the file goes");
 }
 
 #[test]
 fn wrong_calls_print_the_usage_and_end_with_2() {
     let cert = sample("sample.cert");
-    let wrong: [&[&str]; 33] = [
+    let wrong: [&[&str]; 36] = [
         &[],
         &["check"],
         &["check", &cert, "more"],
@@ -196,6 +221,9 @@ fn wrong_calls_print_the_usage_and_end_with_2() {
         &["small", "1"],
         &["listed", "1"],
         &["unknown", "1"],
+        &["off", "1"],
+        &["older", "1"],
+        &["unchanged", &cert],
         &["relisted", "1"],
         &["twins", "1"],
         &["twinned", &cert],
@@ -208,7 +236,7 @@ fn wrong_calls_print_the_usage_and_end_with_2() {
         &["gen", "1"],
         &["gen", "1", "many"],
         &["workload", "0", "1"],
-        &["workload", "8", "1"],
+        &["workload", "11", "1"],
         &["no-such-command"],
     ];
     for arguments in wrong {

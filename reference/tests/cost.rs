@@ -1,7 +1,7 @@
 //! The bound on looks at clauses, held to numbers worked out by hand.
 
 use reference::cost::{self, Cost};
-use reference::draft::sample;
+use reference::draft::{sample, step, Draft};
 use reference::generate::limits::workload;
 use reference::generate::random::Random;
 use reference::generate::worst::{busiest, no_model, two_right_leaves, Left, Order};
@@ -55,6 +55,17 @@ fn the_usual_statement() {
     let mut looks = looks;
     looks.sort_unstable_by(|a, b| b.cmp(a));
     assert_eq!(found, looks);
+}
+
+/// The goal within the empty set: a clause for each of 64 facts, and one more for each that it wants both on and off.
+#[test]
+fn a_fact_that_the_goal_wants_on_and_off_counts_twice() {
+    for (goal_off, clauses) in [(0, 64), (4, 64), (1, 65), (7, 66)] {
+        let mut d = Draft { version: 3, facts: 3, goal_off, ..sample() };
+        d.steps = vec![step(1, 1, &[2, 0], &[])];
+        let looks = clauses * (4 + 3 + 3);
+        assert_eq!(cost::of(&d.encode()), Ok(vec![Cost { step: 0, looks }]), "{goal_off}");
+    }
 }
 
 #[test]

@@ -13,7 +13,7 @@ use reference::draft::{self, Draft};
 use reference::draw::{draw, Graph};
 use reference::generate::cases;
 use reference::generate::random::Random;
-use reference::generate::tasks::action;
+use reference::generate::tasks::{action, need_off, some_off};
 use reference::names::Names;
 use reference::task::Action;
 use reference::{check, layout, Reply};
@@ -92,7 +92,7 @@ fn on(mask: u64, fact: u32) -> bool {
 /// The state after an action fact by fact; none where it does not apply.
 fn step(action: &Action, state: u64) -> Option<u64> {
     let after = |f: u32| on(action.add, f) || (on(state, f) && !on(action.del, f));
-    let applies = (0..64).all(|f| on(state, f) || !on(action.pre, f));
+    let applies = (0..64).all(|f| if on(state, f) { !on(action.off, f) } else { !on(action.pre, f) });
     applies.then(|| (0..64).filter(|f| after(*f)).map(|f| 1 << f).sum())
 }
 
@@ -135,7 +135,8 @@ fn listed(state: u64, names: &Names) -> String {
 
 /// Each node of a table: facts, mark in words and look.
 fn check_nodes(draft: &Draft, names: &Names, states: &[u64], graph: &dot::Graph) -> [usize; 3] {
-    let forbidden = |state: u64| (0..64).all(|f| !on(draft.goal, f) || on(state, f));
+    let wanted = |state, f| if on(state, f) { !on(draft.goal_off, f) } else { !on(draft.goal, f) };
+    let forbidden = |state: u64| (0..64).all(|f| wanted(state, f));
     let all = if draft.facts <= 6 { 1 << draft.facts } else { 0 };
     let unreached: Vec<u64> = (0..all).filter(|s| forbidden(*s) && !states.contains(s)).collect();
     let mut counts = [0; 3];
@@ -183,15 +184,17 @@ fn random_task(random: &mut Random) -> Vec<u8> {
     let facts = (1 << draft.facts) - 1;
     (draft.init, draft.goal) = (random.mask(facts, 1), random.mask(facts, 2));
     if random.chance(50) {
-        (draft.version, draft.unknown) = (2, random.mask(facts & !draft.init, 1));
+        (draft.version, draft.unknown) = (random.pick(&[2, 3]), random.mask(facts & !draft.init, 1));
     }
+    draft.goal_off = some_off(random, draft.version, facts, draft.goal);
     // Actions that change one fact each lead to many states.
     let single = random.chance(30);
     let change = |random: &mut Random| match single {
-        true => Action { pre: 0, add: random.bit(facts), del: random.bit(facts) },
+        true => Action { pre: 0, add: random.bit(facts), del: random.bit(facts), ..Action::NOTHING },
         false => action(random, facts),
     };
     draft.actions = (0..random.between(2, 12)).map(|_| change(random)).collect();
+    need_off(random, draft.version, facts, &mut draft.actions);
     draft.encode()
 }
 
@@ -213,9 +216,23 @@ fn check_table(bytes: &[u8], names: &Names) -> Option<[usize; 3]> {
     };
     assert!(graph.caption[1].starts_with(&format!("{} state", states.len())), "{:?}", graph.caption);
     assert!(graph.caption[1].ends_with(&forbidden), "{:?}", graph.caption);
-    let unknown = format!("At the start {} may be on or off.", listed(draft.unknown, names));
-    assert_eq!(graph.caption[2..], [unknown][..(draft.unknown != 0) as usize]);
+    assert_eq!(graph.caption[2..], masks_in_words(&draft, names));
     Some(counts)
+}
+
+/// What the caption says of unknown facts and of facts that are off in a forbidden state.
+fn masks_in_words(draft: &Draft, names: &Names) -> Vec<String> {
+    let [unknown, on, off] = [draft.unknown, draft.goal, draft.goal_off].map(|mask| listed(mask, names));
+    let on = if draft.goal == 0 { String::new() } else { format!("{on} on and ") };
+    let none = if draft.goal & draft.goal_off == 0 { "" } else { ", which no state has" };
+    let mut lines = Vec::new();
+    if draft.unknown != 0 {
+        lines.push(format!("At the start {unknown} may be on or off."));
+    }
+    if draft.goal_off != 0 {
+        lines.push(format!("Forbidden is a state with {on}{off} off{none}."));
+    }
+    lines
 }
 
 #[test]
@@ -237,7 +254,7 @@ fn tables_against_the_meaning() {
 
 /// A chain of states, one more than actions: each action turns on the next fact.
 fn chain(actions: u32) -> Vec<u8> {
-    let next = |k: u32| Action { pre: (1 << k) - 1, add: 1 << k, del: 0 };
+    let next = |k: u32| Action { pre: (1 << k) - 1, add: 1 << k, del: 0, ..Action::NOTHING };
     let mut chain = draft::sample();
     (chain.facts, chain.init, chain.goal) = (64, 0, u64::MAX);
     chain.actions = (0..actions).map(next).collect();

@@ -8,6 +8,8 @@ use common::kind;
 use reference::draft::{Draft, DraftActions};
 use reference::generate::listed::listed;
 use reference::generate::numbered::numbered;
+use reference::generate::off::off;
+use reference::generate::older::older;
 use reference::generate::relisted::relisted;
 use reference::generate::rounds::rounds;
 use reference::generate::small::small;
@@ -114,13 +116,14 @@ fn the_cases_of_seed_1_are_pinned() {
     assert_eq!(hash, PINNED, "{hash:#x}");
 }
 
-const PINNED: u64 = 0x698D_536C_54A9_5DD7;
+const PINNED: u64 = 0x4AC5_BC3F_4E35_5973;
 
 #[test]
 fn the_line_form_reads_back() {
     let others = numbered(9, 200).chain(rounds(9, 200)).chain(small(9, 200)).chain(listed(9, 200));
-    let pairs = relisted(9, 50).chain(twins(9, 50)).chain(unknown(9, 200));
-    for case in cases(9, 500).chain(others).chain(pairs) {
+    let masks = unknown(9, 200).chain(off(9, 200));
+    let pairs = relisted(9, 50).chain(twins(9, 50)).chain(older(9, 50));
+    for case in cases(9, 500).chain(others).chain(masks).chain(pairs) {
         assert_eq!(Case::parse(&case.line()), Some(case));
     }
     let empty = Case { call: Call::Check, bytes: Vec::new() };

@@ -6,7 +6,7 @@ use std::time::{Duration, Instant};
 use reference::assemble::parse;
 use reference::draft::{sample, step, Draft, DraftActions, DraftSet};
 use reference::file::Clause;
-use reference::generate::limits::{full_file, many_action_sets, many_state_sets, workload};
+use reference::generate::limits::{full_file, many_action_sets, many_state_sets, workload, WORKLOADS};
 use reference::generate::random::Random;
 use reference::task::Action;
 use reference::{ask, check};
@@ -19,7 +19,7 @@ fn reply(draft: &Draft) -> String {
 fn counts_at_and_over_their_limits() {
     let actions = |count| {
         let mut d = sample();
-        d.actions = vec![Action { pre: 0, add: 1, del: 2 }; count];
+        d.actions = vec![Action { pre: 0, add: 1, del: 2, ..Action::NOTHING }; count];
         reply(&d)
     };
     assert_eq!((actions(256), actions(257)), ("accepted".into(), "refused 4 22".into()));
@@ -63,7 +63,7 @@ fn bodies_at_and_over_their_limits() {
     assert_eq!((clauses(256), clauses(257)), ("accepted".into(), "refused 4 136".into()));
     let listed = |count: u16| {
         let mut d = sample();
-        d.actions = vec![Action { pre: 0, add: 1, del: 2 }; 256];
+        d.actions = vec![Action { pre: 0, add: 1, del: 2, ..Action::NOTHING }; 256];
         d.action_sets.push(DraftActions::List((0..count).collect()));
         reply(&d)
     };
@@ -177,7 +177,7 @@ fn doubling_entries_are_answered_at_once() {
 
 #[test]
 fn workloads_are_accepted() {
-    for number in 1..=7 {
+    for number in WORKLOADS {
         let draft = workload(&mut Random::new(7), number);
         let bytes = draft.encode();
         let start = Instant::now();
@@ -188,6 +188,7 @@ fn workloads_are_accepted() {
             2 | 3 => assert!(draft.facts == 64 && draft.actions.len() == 256),
             4 => assert_eq!((draft.steps.len(), draft.state_sets.len()), (2048, 512)),
             6 | 7 => initial_states_are_listed(&draft),
+            8..=10 => as_much_work_as(&draft, &workload(&mut Random::new(7), number - 7)),
             _ => {
                 let DraftSet::Explicit(states) = &draft.state_sets[3] else { panic!("no listed states") };
                 let different = BTreeSet::from_iter(states);
@@ -196,6 +197,33 @@ fn workloads_are_accepted() {
             }
         }
     }
+}
+
+/// A workload in version 3 beside the same in version 1: facts are needed off, the statements are the same, and the actions apply in as
+/// many states; where states are listed, each of them in as many of these.
+fn as_much_work_as(third: &Draft, first: &Draft) {
+    assert_eq!((third.version, first.version, third.unknown), (3, 1, 0));
+    assert_eq!((&third.state_sets, &third.steps), (&first.state_sets, &first.steps));
+    assert_eq!((third.init, third.goal), (first.init, first.goal));
+    assert!(third.goal_off != 0 && third.goal_off & third.goal == 0);
+    for (new, old) in third.actions.iter().zip(&first.actions) {
+        assert!(new.off != 0 && new.off & new.pre == 0);
+        assert_eq!((new.add, new.del, new.pre & !old.pre), (old.add, old.del, 0));
+        match &third.state_sets[3] {
+            DraftSet::Explicit(states) => {
+                let applying = |action: &Action| states.iter().filter(|s| action.applies(**s)).count();
+                assert_eq!(applying(new), applying(old));
+            }
+            _ => {
+                // Within reach the fact is always off.
+                let added = first.actions.iter().fold(first.init, |on, action| on | action.add);
+                assert_eq!((new.pre, new.off & added), (old.pre, 0));
+            }
+        }
+    }
+    let moved = third.actions.iter().zip(&first.actions).filter(|(new, old)| new.pre != old.pre).count();
+    assert!(moved > 50 || !matches!(third.state_sets[3], DraftSet::Explicit(_)), "{moved}");
+    assert_eq!(third.encode().len(), first.encode().len() + 8 + 8 + 8 * 256);
 }
 
 /// W1's table with 12 unknown facts: the 4,096 initial states are the listed ones, and without any one of them it is refused.

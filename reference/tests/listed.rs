@@ -85,7 +85,7 @@ fn a_single_state() {
     for count in [1, 2, 3, 100, 4096] {
         let mut d = with_states(&vec![2; count]);
         d.init = 2;
-        d.actions = vec![Action { pre: 0, add: 2, del: 1 }];
+        d.actions = vec![Action { pre: 0, add: 2, del: 1, ..Action::NOTHING }];
         let bytes = d.encode();
         assert_eq!(check(&bytes).to_string(), "accepted", "{count}");
         assert_eq!([0, 1, 2, 3].map(|s| ask(&bytes, 3, s).to_string()), ["out", "out", "in", "out"]);
@@ -102,7 +102,7 @@ fn repeated(different: u64, written: usize, order: fn(&mut Vec<u64>)) -> Draft {
     let mut d = with_states(&states);
     d.facts = 14;
     d.goal = 1 << 13;
-    d.actions.fill(Action { pre: 0, add: 0, del: 3 });
+    d.actions.fill(Action { pre: 0, add: 0, del: 3, ..Action::NOTHING });
     d
 }
 

@@ -129,7 +129,7 @@ fn faulty_names_are_refused_with_their_line() {
 #[test]
 fn keywords_are_no_names() {
     let text =
-        "version facts fact init unknown goal action actions set step pre add del all list empty explicit horn \
+        "version facts fact init unknown goal action actions set step pre add del off all list empty explicit horn \
                 twocnf raw dead unsolvable by";
     for word in text.split_whitespace() {
         let fault = format!("line 1: '{word}' is a word of the text form and no name");

@@ -189,7 +189,10 @@ fn four_ways(rule: u8) -> Draft {
         facts: 2,
         init: 2,
         goal: 1,
-        actions: vec![Action { pre: 0, add: 2, del: 0 }, Action { pre: 1, add: 0, del: 2 }],
+        actions: vec![
+            Action { pre: 0, add: 2, del: 0, ..Action::NOTHING },
+            Action { pre: 1, add: 0, del: 2, ..Action::NOTHING },
+        ],
         action_sets: vec![DraftActions::All],
         state_sets: vec![
             DraftSet::Empty,
@@ -328,7 +331,7 @@ fn reply_11_effects_clear_first_then_set() {
     // The action adds and deletes fact 0: it ends on.
     let both = |states: Vec<u64>| {
         reply(|d| {
-            d.actions = vec![Action { pre: 0, add: 1, del: 1 }];
+            d.actions = vec![Action { pre: 0, add: 1, del: 1, ..Action::NOTHING }];
             d.state_sets[3] = DraftSet::Explicit(states);
         })
     };
@@ -336,7 +339,7 @@ fn reply_11_effects_clear_first_then_set() {
     assert_eq!(both(vec![0]), "refused 11 1");
     let both = |clauses: Vec<Clause>| {
         reply(|d| {
-            d.actions = vec![Action { pre: 0, add: 1, del: 1 }];
+            d.actions = vec![Action { pre: 0, add: 1, del: 1, ..Action::NOTHING }];
             d.state_sets[3] = DraftSet::Horn(clauses);
         })
     };
@@ -350,7 +353,7 @@ fn reply_11_effects_clear_first_then_set() {
 fn old_values_of_changed_facts_still_bind() {
     let wrong = |set: DraftSet| {
         reply(|d| {
-            d.actions = vec![Action { pre: 0, add: 1, del: 0 }];
+            d.actions = vec![Action { pre: 0, add: 1, del: 0, ..Action::NOTHING }];
             d.state_sets[3] = set;
         })
     };
@@ -360,7 +363,7 @@ fn old_values_of_changed_facts_still_bind() {
     // old value of fact 0 says that fact 1 was on where it applies.
     let right = |set: DraftSet, goal: u64| {
         reply(|d| {
-            d.actions = vec![Action { pre: 1, add: 0, del: 1 }];
+            d.actions = vec![Action { pre: 1, add: 0, del: 1, ..Action::NOTHING }];
             d.goal = goal;
             d.state_sets.push(DraftSet::Horn(vec![clause(2, 1)]));
             d.state_sets.push(DraftSet::Progression(7, 0));
@@ -377,7 +380,7 @@ fn old_values_of_changed_facts_still_bind() {
 #[test]
 fn a_false_action_inclusion_is_refused() {
     let mut d = sample();
-    d.actions[1] = Action { pre: 0, add: 3, del: 0 };
+    d.actions[1] = Action { pre: 0, add: 3, del: 0, ..Action::NOTHING };
     d.action_sets.push(DraftActions::List(vec![0]));
     d.state_sets.push(DraftSet::Progression(3, 1));
     d.steps = vec![

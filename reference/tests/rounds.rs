@@ -481,7 +481,7 @@ fn summary(seed: u64, count: u64) -> Summary {
 
 #[test]
 fn the_generator_reaches_every_outcome() {
-    let summary = summary(32, 6000);
+    let summary = summary(33, 6000);
     outcomes().for_each(|outcome| summary.at_least(10, &outcome));
     for outcome in ["ended", "go on", "refused 9", "refused 17"] {
         summary.at_least(500, outcome);

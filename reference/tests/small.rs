@@ -64,7 +64,7 @@ fn with_states(count: usize) -> Draft {
     changed(|d| {
         d.facts = 14;
         d.goal = 1 << 13;
-        d.actions.fill(Action { pre: 0, add: 0, del: 3 });
+        d.actions.fill(Action { pre: 0, add: 0, del: 3, ..Action::NOTHING });
         d.state_sets[3] = DraftSet::Explicit((0..count as u64).collect());
     })
 }
@@ -123,7 +123,7 @@ fn order_at_the_size() {
         assert_eq!(both(&[0; 4][..length]), [refused(1, 0), refused(1, 0)]);
     }
     let changes: [(Change, u8, usize); 5] = [
-        (|d| d.version = 3, 2, 4),
+        (|d| d.version = 9, 2, 4),
         (|d| d.facts = 0, 4, 5),
         (|d| d.goal = 4, 5, 14),
         (|d| d.state_sets[5] = DraftSet::Union(5, 0), 6, 125),
@@ -370,8 +370,8 @@ fn the_certain_certificate() {
         d.facts = 11;
         d.init = if one_more { 1 << 9 } else { 0 };
         d.goal = 1 << 10;
-        d.actions = (0..9).map(|f| Action { pre: 0, add: 1 << f, del: 1 << 9 }).collect();
-        d.actions.push(Action { pre: 0, add: 0, del: (1 << 10) - 1 });
+        d.actions = (0..9).map(|f| Action { pre: 0, add: 1 << f, del: 1 << 9, ..Action::NOTHING }).collect();
+        d.actions.push(Action { pre: 0, add: 0, del: (1 << 10) - 1, ..Action::NOTHING });
         d.actions.resize(actions, Action::NOTHING);
         let states = reached(&d);
         assert_eq!(states.len(), 512 + one_more as usize);
@@ -417,8 +417,12 @@ fn what_is_no_breach() {
 /// too where these do not lead to one.
 fn breach(bytes: &[u8]) -> Option<usize> {
     let number = |at: usize| Some(u16::from_be_bytes(bytes.get(at..at + 2)?.try_into().ok()?) as usize);
-    let head = if bytes.get(4) == Some(&2) { 30 } else { 22 };
-    let mut at = head + 2 + 24 * number(head)?;
+    let (head, action) = match bytes.get(4) {
+        Some(2) => (30, 24),
+        Some(3) => (38, 32),
+        _ => (22, 24),
+    };
+    let mut at = head + 2 + action * number(head)?;
     let action_sets = number(at)?;
     at += 2;
     for _ in 0..action_sets {

@@ -10,6 +10,7 @@ use reference::draft::{Draft, DraftSet};
 use reference::file::{File, Judgement};
 use reference::generate::applications::{add_compounds, add_pool, basic};
 use reference::generate::builder::Builder;
+use reference::generate::off::off;
 use reference::generate::random::Random;
 use reference::generate::{cases, tasks};
 use reference::{ask, check, layout, steps, Answer};
@@ -19,10 +20,10 @@ fn pool(random: &mut Random, most: usize) -> Builder<'_> {
     let n = random.between(1, most) as u8;
     let (mut task, _) = tasks::reachable(random, n, 64);
     for _ in 0..random.below(3) {
-        task.actions.push(tasks::action(random, task.all_facts()));
+        task.actions.push(tasks::action_of(random, task.version, task.all_facts()));
     }
     if random.chance(10) {
-        task.goal = 0;
+        (task.goal, task.goal_off) = (0, 0);
     }
     let mut b = Builder::new(task, random);
     add_pool(&mut b);
@@ -122,8 +123,8 @@ fn every_pair_of_literals() {
 
 #[test]
 fn generated_files_against_the_slow_checker() {
-    let (mut compared, mut accepted) = (0, 0);
-    for case in cases(2, 8000) {
+    let (mut compared, mut accepted, mut versions) = (0, 0, [0; 3]);
+    for case in cases(2, 8000).chain(off(2, 3000)) {
         let Ok(file) = layout::read(&case.bytes) else { continue };
         if !case.is_check() || file.task.facts > 6 || file.state_sets.len() > 200 {
             continue;
@@ -132,8 +133,10 @@ fn generated_files_against_the_slow_checker() {
         assert_eq!(check(&case.bytes), slow, "{}", reference::show::show(&case.bytes));
         compared += 1;
         accepted += (slow == reference::Reply::Accepted) as usize;
+        versions[file.task.version as usize - 1] += 1;
     }
-    assert!(compared > 3000 && accepted > 1500, "{compared} compared, {accepted} accepted");
+    assert!(compared > 4000 && accepted > 2000, "{compared} compared, {accepted} accepted");
+    assert!(versions.iter().all(|count| *count > 500), "{versions:?}");
 }
 
 #[test]

@@ -1,11 +1,11 @@
-//! Version 2, initial facts that may be on or off: document 02, d, reading by reading; the text form, explanations, certain
+//! Versions 2 and 3, initial facts that may be on or off: document 02, d, reading by reading; the text form, explanations, certain
 //! certificates, and twins of versions 1 and 2.
 
 mod common;
 
 use std::collections::{BTreeMap, BTreeSet};
 
-use common::{has_state, is_init, lead};
+use common::{has_state, is_goal, is_init, lead};
 use reference::assemble::{assemble, parse};
 use reference::draft::{mend_length, sample, step, Draft, DraftSet};
 use reference::explain::explain;
@@ -41,7 +41,7 @@ fn all_replies(bytes: &[u8]) -> [String; 5] {
     ]
 }
 
-/// The places of both versions, as the documents name them.
+/// The places of versions 1 and 2, as the documents name them.
 #[test]
 fn places_by_version() {
     let [one, two] = [1, 2].map(Places::of);
@@ -59,14 +59,18 @@ fn places_by_version() {
     }
 }
 
-/// d11: versions 1 and 2 are read, and no other.
+/// d11 and j2: versions 1 to 3 are read, and no other.
 #[test]
-fn two_versions_are_read() {
+fn three_versions_are_read() {
     for version in 0..=255 {
         let bytes = Draft { version, ..sample() }.encode();
-        assert_eq!(bytes.len(), if version == 2 { 242 } else { 234 });
-        let expected = if [1, 2].contains(&version) { "accepted" } else { "refused 2 4" };
-        assert_eq!(check(&bytes).to_string(), expected, "{version}");
+        let (length, expected) = match version {
+            1 => (234, "accepted"),
+            2 => (242, "accepted"),
+            3 => (266, "accepted"),
+            _ => (234, "refused 2 4"),
+        };
+        assert_eq!((bytes.len(), check(&bytes).to_string()), (length, expected.into()), "{version}");
     }
     // One version's bytes under the other's number.
     let mut bytes = sample().encode();
@@ -186,7 +190,7 @@ fn wide(unknown: u32) -> Draft {
     let init = if unknown < 62 { 1 << 63 } else { 0 };
     let never = vec![Clause { positive: 0, negative: 1 }];
     let mut d = Draft { facts: 64, init, goal: 1, ..second(mask) };
-    d.actions = vec![Action { pre: 0, add: 0, del: 2 }];
+    d.actions = vec![Action { pre: 0, add: 0, del: 2, ..Action::NOTHING }];
     d.state_sets = vec![
         DraftSet::Empty,
         DraftSet::Init,
@@ -319,7 +323,7 @@ fn certain_certificates() {
     for seed in 0..1500 {
         let d = certain(&mut Random::new(seed));
         let reached = reach(&d);
-        let forbidden = |state: &u64| d.goal & !state == 0;
+        let forbidden = |state: &u64| is_goal(&d, *state);
         let DraftSet::Explicit(states) = &d.state_sets[3] else { panic!("a list") };
         assert_eq!(BTreeSet::from_iter(states.iter().copied()), reached);
         if !reached.iter().any(forbidden) {
@@ -396,7 +400,7 @@ fn the_generator_reaches_the_replies() {
     assert_ne!(lines(5), lines(6));
 }
 
-/// Cases of the other sorts have version 2 as well, with unknown facts and with none.
+/// Cases of the other sorts have later versions as well, with unknown facts and with none.
 #[test]
 fn other_cases_have_unknown_facts_too() {
     use reference::generate::{
@@ -404,9 +408,9 @@ fn other_cases_have_unknown_facts_too() {
     };
     let count = |cases: Vec<Case>| {
         let files: Vec<_> = cases.iter().filter_map(|case| layout::read(&case.bytes).ok()).collect();
-        let second: Vec<_> = files.iter().filter(|file| file.task.version == 2).collect();
-        let unknown = second.iter().filter(|file| file.task.unknown != 0).count();
-        [files.len() - second.len(), unknown, second.len() - unknown]
+        let later: Vec<_> = files.iter().filter(|file| file.task.version > 1).collect();
+        let unknown = later.iter().filter(|file| file.task.unknown != 0).count();
+        [files.len() - later.len(), unknown, later.len() - unknown]
     };
     for (sort, counts) in [
         ("gen", count(cases(3, 800).collect())),
@@ -496,7 +500,7 @@ fn the_text_form() {
     );
     assert_eq!(bytes("unknown 0x2\nversion 2\nfacts 2"), bytes("version 2\nfacts 2\nunknown {1}"));
     assert_eq!(parse("version 2\nunknown {1} 2"), Err("line 2: '2' is too much".into()));
-    for (version, number) in [("", 1), ("version 1\n", 1), ("version 3\n", 3)] {
+    for (version, number) in [("", 1), ("version 1\n", 1), ("version 4\n", 4)] {
         let expected = format!(
             "line {}: version {number} has no unknown facts; 'version 2' has",
             2 - version.is_empty() as usize
@@ -533,7 +537,7 @@ fn explanations() {
         "\nAt byte 14, 8 bytes: the mask of unknown facts.\nIt holds 0x1: facts {0}, of which init has {0} on.\n",
         "It may hold facts that are off in init only, none of {0}.\n",
     ]);
-    has(&Draft { version: 3, ..sample() }, &["It holds 3.\nIt may hold 1 to 2.\n"]);
+    has(&Draft { version: 4, ..sample() }, &["It holds 4.\nIt may hold 1 to 3.\n"]);
     let mut d = second(1);
     d.state_sets.push(DraftSet::Explicit(vec![0, 1, 2, 3]));
     d.steps[0] = step(1, 1, &[7, 1], &[]);
@@ -588,7 +592,7 @@ fn the_samples() {
     let read = |text| parse(text).expect("a text");
     let delivered = read(include_str!("../../samples/delivered.txt"));
     let on = read(include_str!("../../samples/delivered_on_refused_11.txt"));
-    let forbidden = |d: &Draft| reach(d).iter().filter(|state| d.goal & !**state == 0).count();
+    let forbidden = |d: &Draft| reach(d).iter().filter(|state| is_goal(d, **state)).count();
     assert_eq!((reply(&delivered), forbidden(&delivered)), ("accepted".into(), 0));
     assert!(reply(&on) == "refused 11 5" && forbidden(&on) > 0);
     let off = Draft { unknown: 0, ..on };

@@ -35,7 +35,11 @@ pub fn graph(file: &File, names: &Names) -> String {
         0 => "init: the start".into(),
         unknown => format!("init: the start with {} on or off", names.facts_of(unknown)),
     };
-    let mut caption = vec![reply, format!("{init}, goal: the forbidden states")];
+    let goal = match file.task.goal_off {
+        0 => "goal: the forbidden states".into(),
+        off => format!("goal: the forbidden states, those with {}", names.goal(file.task.goal, off)),
+    };
+    let mut caption = vec![reply, format!("{init}, {goal}")];
     caption.extend(entries.explained());
     head("steps", "TB", &caption) + &nodes + &edges + "}\n"
 }

@@ -53,7 +53,8 @@ fn action(action: u16, names: &Names) -> String {
     names.actions.get(&action).cloned().unwrap_or(format!("action {action}"))
 }
 
-/// What a box is, how many states are within reach, and how many of them are forbidden; and which facts may be on or off at first.
+/// What a box is, how many states are within reach, and how many of them are forbidden; which facts may be on or off at first; and what
+/// a forbidden state has on and off, where it has to have a fact off.
 fn caption(task: &Task, states: &BTreeSet<State>, names: &Names) -> Vec<String> {
     let count = states.len();
     let are = if count == 1 { "state is" } else { "states are" };
@@ -67,6 +68,9 @@ fn caption(task: &Task, states: &BTreeSet<State>, names: &Names) -> Vec<String> 
     ];
     if task.unknown != 0 {
         lines.push(format!("At the start {} may be on or off.", names.facts_of(task.unknown)));
+    }
+    if task.goal_off != 0 {
+        lines.push(format!("Forbidden is a state with {}.", names.goal(task.goal, task.goal_off)));
     }
     lines
 }

@@ -123,9 +123,12 @@ impl Statement<'_> {
         // A state is in no empty set: such a right set asks for nothing.
         let right: Vec<Vec<Clause>> = self.right.iter().filter_map(|set| self.clauses(*set)).collect();
         let state = |action: &Action| {
+            if action.never_applies() {
+                return None;
+            }
             let pulled_after = after.iter().filter_map(|clause| pulled(*clause, action));
             let clauses: Vec<Clause> = before.iter().copied().chain(pulled_after).collect();
-            let known = Known { on: action.pre, off: !self.file.task.all_facts() };
+            let known = Known { on: action.pre, off: !self.file.task.all_facts() | action.off };
             let seen = if self.rule == 2 { *action } else { Action::NOTHING };
             failing(&clauses, known, &right, &seen)
         };
@@ -140,7 +143,7 @@ impl Statement<'_> {
         let off = |mask| facts(mask).map(|negative| Clause { positive: 0, negative });
         match set {
             StateSet::Init => Some(on(task.init).chain(off(task.init_off())).collect()),
-            StateSet::Goal => Some(on(task.goal).collect()),
+            StateSet::Goal => Some(on(task.goal).chain(off(task.goal_off)).collect()),
             StateSet::Horn(span) | StateSet::TwoCnf(span) => Some(span.of(&self.file.clauses).to_vec()),
             StateSet::Empty | StateSet::Explicit(_) => None,
             // No leaf is of these kinds.

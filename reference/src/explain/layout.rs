@@ -82,7 +82,7 @@ impl Context<'_> {
             Item::Whole if self.is_too_long() => self.bytes.len(),
             Item::Whole => 4,
             Item::Field("version" | "fact count") => 1,
-            Item::Field("init" | "unknown mask" | "goal") | Item::Mask(..) => 8,
+            Item::Field("init" | "unknown mask" | "goal" | "goal off mask") | Item::Mask(..) => 8,
             Item::Field(_) => 2,
             Item::Entry(..) => 2 + self.number_at(self.place, 2).unwrap_or(0) as usize,
             Item::EntryLength(..) => 2,

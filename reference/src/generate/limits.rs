@@ -1,6 +1,8 @@
 //! Files at and just over the limits of the format, and the workloads on which checkers
 //! are timed.
 
+use std::ops::RangeInclusive;
+
 use crate::draft::{sample, step, Draft, DraftActions, DraftSet};
 use crate::file::Clause;
 use crate::generate::builder::Builder;
@@ -24,7 +26,7 @@ pub fn random(random: &mut Random) -> Vec<u8> {
         3 => many_steps(over),
         4 => many_states(random, over),
         5 => many_clauses(over),
-        6 => filled(Draft { version: random.pick(&[1, 2]), ..sample() }, over),
+        6 => filled(Draft { version: random.pick(&[1, 2, 3]), ..sample() }, over),
         7 => all_facts(random),
         8 => deep_tree(random, over),
         9 => workload(random, 2).encode(),
@@ -107,7 +109,7 @@ pub fn full_file(over: usize) -> Vec<u8> {
     filled(sample(), over)
 }
 
-/// The sample, of either version, filled up to that length.
+/// The sample, of any version, filled up to that length.
 fn filled(mut d: Draft, over: usize) -> Vec<u8> {
     let mut rest = MAX_BYTES + over - d.encode().len();
     let clause = Clause { positive: 0, negative: 3 };
@@ -168,11 +170,16 @@ fn deep_tree(random: &mut Random, over: usize) -> Vec<u8> {
     d.encode()
 }
 
+/// The numbers of the workloads.
+pub const WORKLOADS: RangeInclusive<usize> = 1..=10;
+
 /// The timed workloads: 1 many listed states and actions, 2 a large Horn set, 3 a large
 /// two-literal set, 4 many rule steps over many entries, 5 states in the order found, 6 many initial
-/// states within a list, 7 the same with actions leading from them into it. All are accepted.
+/// states within a list, 7 the same with actions leading from them into it; 8 to 10 are 1 to 3 in version 3, with facts
+/// needed off. All are accepted.
 pub fn workload(random: &mut Random, number: usize) -> Draft {
     match number {
+        8..=10 => with_facts_off(workload(random, number - 7)),
         1 => listed_cube(random, 12, MAX_ACTIONS),
         2 => large_clauses(random, Method::Horn),
         3 => large_clauses(random, Method::TwoCnf),
@@ -190,6 +197,32 @@ pub fn listed_cube(random: &mut Random, free: usize, actions: usize) -> Draft {
     let init = random.pick(&states);
     let actions = (0..actions).map(|_| cube.action(random)).collect();
     cube.certificate(random, init, actions, states)
+}
+
+/// The same in version 3, for as much work: the statements are the same, and each action applies in as many of the listed states. Of the
+/// facts needed on that are on in some of them and off in others, every second one is needed off instead; and each action needs a fact
+/// off that is on in no state within reach. The goal wants one off that it does not want on.
+fn with_facts_off(mut d: Draft) -> Draft {
+    let (open, never) = match &d.state_sets[3] {
+        DraftSet::Explicit(states) => {
+            let all = states.iter().fold((u64::MAX, 0), |(on, some), state| (on & state, some | state));
+            (all.1 & !all.0, !all.1)
+        }
+        DraftSet::Horn(clauses) | DraftSet::TwoCnf(clauses) => {
+            let named = clauses.iter().map(|clause| clause.positive | clause.negative);
+            (0, !named.filter(|facts| facts.count_ones() > 1).fold(0, |all, facts| all | facts))
+        }
+        _ => unreachable!("the sample's form"),
+    };
+    let mut turns = [false, true].into_iter().cycle();
+    for action in &mut d.actions {
+        let needed = (0..64).map(|f| 1 << f).filter(|bit| action.pre & open & bit != 0);
+        action.off = needed.filter(|_| turns.next() == Some(true)).sum();
+        action.pre &= !action.off;
+        action.off |= never & never.wrapping_neg();
+    }
+    (d.version, d.goal_off) = (3, !d.goal & (d.goal + 1));
+    d
 }
 
 /// The first workload's table with its free facts unknown, so that every listed state is an initial one. That no action leads out of
@@ -258,7 +291,7 @@ impl Cube {
     /// An action that leads from state to state.
     pub fn action(&self, random: &mut Random) -> Action {
         let (pre, add) = (random.mask(self.free | self.fixed, 4), random.mask(self.free, 2));
-        Action { pre, add, del: random.mask(self.free, 2) }
+        Action { pre, add, del: random.mask(self.free, 2), ..Action::NOTHING }
     }
 
     /// The sample's form, with these states in its set.
@@ -335,16 +368,16 @@ pub fn shuffle<T>(random: &mut Random, list: &mut [T]) {
 fn moving(random: &mut Random, group: &[u64]) -> Action {
     let from = random.pick(group);
     let to = random.pick(group);
-    Action { pre: from, add: to, del: from }
+    Action { pre: from, add: to, del: from, ..Action::NOTHING }
 }
 
 /// From one fact of the group to the next, or down from some fact on.
 pub fn climbing(random: &mut Random, group: &[u64]) -> Action {
     let at = random.between(1, group.len() - 1);
     if random.chance(60) {
-        return Action { pre: group[at - 1], add: group[at], del: 0 };
+        return Action { pre: group[at - 1], add: group[at], del: 0, ..Action::NOTHING };
     }
-    Action { pre: 0, add: 0, del: group[at..].iter().sum() }
+    Action { pre: 0, add: 0, del: group[at..].iter().sum(), ..Action::NOTHING }
 }
 
 /// The sample's argument, then derivation rules over unions until there are so many entries,

@@ -10,6 +10,8 @@ pub mod limits;
 pub mod listed;
 pub mod mutate;
 pub mod numbered;
+pub mod off;
+pub mod older;
 pub mod random;
 pub mod relisted;
 pub mod rounds;
@@ -22,6 +24,8 @@ pub mod worst;
 use crate::draft::Draft;
 use crate::generate::builder::Builder;
 use crate::generate::random::Random;
+use crate::layout::MAX_STEPS;
+use crate::rules::RULES;
 use crate::{ask, check, check_numbered, check_round, check_small};
 
 /// What is done with a file.
@@ -171,6 +175,31 @@ fn case(random: &mut Random) -> Case {
         _ => return question_at_limit(random),
     };
     Case { call: Call::Check, bytes }
+}
+
+/// A case of any call.
+fn any_case(random: &mut Random) -> Case {
+    match random.below(10) {
+        0..=4 => case(random),
+        5 => listed::listed_case(random),
+        6 => numbered::numbered_case(random),
+        7 => rounds::round_case(random),
+        _ => small::small_case(random),
+    }
+}
+
+/// Mostly a check or this question; else a round, the small limits, or a list of rule numbers as they are.
+fn some_call(random: &mut Random, d: &Draft, question: impl FnOnce(&mut Random) -> (u64, u64)) -> Call {
+    match random.below(20) {
+        0..=5 => {
+            let (entry, state) = question(random);
+            Call::Ask(entry, state)
+        }
+        6 => Call::Round(random.below(d.steps.len()) as u64, random.between(1, MAX_STEPS) as u64),
+        7 => Call::Small,
+        8 => Call::Numbered((1..=RULES.len() as u8).collect()),
+        _ => Call::Check,
+    }
 }
 
 /// The file of a case that is a check.

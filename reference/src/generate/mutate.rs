@@ -228,18 +228,20 @@ pub fn twin_of(random: &mut Random, d: &mut Draft, first: usize) -> usize {
 
 fn mask(random: &mut Random, d: &mut Draft) {
     let bit = 1u64 << random.below(d.facts as usize + 1).min(63);
-    let actions = d.actions.len();
-    match random.below(6) {
+    let (actions, places) = (d.actions.len(), Places::of(d.version));
+    match random.below(8) {
         0 => d.init ^= bit,
         1 => d.goal ^= bit,
-        2 if d.version == 2 => d.unknown ^= bit,
+        2 if places.unknown.is_some() => d.unknown ^= bit,
+        3 if places.has_off() => d.goal_off ^= bit,
         _ if actions == 0 => (),
         _ => {
             let action = &mut d.actions[random.below(actions)];
-            match random.below(3) {
-                0 => action.pre ^= bit,
-                1 => action.add ^= bit,
-                _ => action.del ^= bit,
+            match places.masks[random.below(places.masks.len())] {
+                "pre" => action.pre ^= bit,
+                "add" => action.add ^= bit,
+                "del" => action.del ^= bit,
+                _ => action.off ^= bit,
             }
         }
     }
@@ -248,7 +250,7 @@ fn mask(random: &mut Random, d: &mut Draft) {
 fn head(random: &mut Random, d: &mut Draft) {
     match random.below(12) {
         0 | 8 | 9 => d.version = random.pick(&[0, VERSIONS.end() + 1, 255]),
-        10 => d.version = random.pick(&[1, 2]),
+        10 => d.version = random.pick(&[1, 2, 3]),
         11 => d.unknown = random.mask(d.unknown, 1),
         1 => d.facts = random.pick(&[0, 65, 255]),
         2 => d.facts = d.facts.wrapping_sub(1),
@@ -285,7 +287,7 @@ pub fn bytes(random: &mut Random, d: &Draft) -> Vec<u8> {
     match random.below(17) {
         0..=3 => bytes.truncate(random.below(length)),
         4 | 5 => bytes.extend((0..random.between(1, 14)).map(|k| k as u8)),
-        6 => bytes[4] = 3 - bytes[4].min(2),
+        6 => bytes[4] = (bytes[4] + random.below(2) as u8) % 3 + 1,
         7 | 8 => {
             let at = random.below(length);
             bytes[at] = random.next() as u8;

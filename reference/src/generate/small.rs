@@ -7,6 +7,7 @@ use crate::file::Clause;
 use crate::generate::limits::{fill, many_rules};
 use crate::generate::listed::{reorder, repeat};
 use crate::generate::random::Random;
+use crate::generate::tasks::{need_off, some_off};
 use crate::generate::{certificate, mutate, plain_file, Call, Case};
 use crate::layout::{Limits, MAX_CLAUSES, MAX_STATE_SETS};
 use crate::task::Action;
@@ -79,8 +80,13 @@ pub(super) fn below(random: &mut Random, count: usize) -> Draft {
     let action = |random: &mut Random| {
         let set = first + random.below(bits - 1);
         match random.below(2) {
-            0 => Action { pre: random.mask(cube, 2), add: 0, del: random.mask(cube, 1) },
-            _ => Action { pre: random.mask(cube, 3), add: 1 << set, del: cube & !((2 << set) - 1) },
+            0 => Action { pre: random.mask(cube, 2), add: 0, del: random.mask(cube, 1), ..Action::NOTHING },
+            _ => Action {
+                pre: random.mask(cube, 3),
+                add: 1 << set,
+                del: cube & !((2 << set) - 1),
+                ..Action::NOTHING
+            },
         }
     };
     let mut d = sample();
@@ -88,14 +94,16 @@ pub(super) fn below(random: &mut Random, count: usize) -> Draft {
     d.init = (random.below(count) as u64) << first;
     if random.chance(30) {
         // As many unknown facts as keep every initial state below the count.
-        d.version = 2;
+        d.version = random.pick(&[2, 3]);
         d.unknown = random.mask(cube & !d.init, 2);
         while (d.init | d.unknown) >> first >= count as u64 {
             d.unknown &= !random.bit(d.unknown);
         }
     }
     d.goal = 1 << (facts - 1);
+    d.goal_off = some_off(random, d.version, cube, d.goal);
     d.actions = (0..random.between(1, 6)).map(|_| action(random)).collect();
+    need_off(random, d.version, cube, &mut d.actions);
     d.state_sets[3] = DraftSet::Explicit((0..count as u64).map(|state| state << first).collect());
     d
 }

@@ -8,6 +8,7 @@ use crate::file::Clause;
 use crate::generate::random::Random;
 use crate::shape::Method;
 use crate::task::{all_facts, Action, State, Task};
+use crate::version::Places;
 
 /// Mostly few facts, now and then up to 64.
 pub fn fact_count(random: &mut Random) -> u8 {
@@ -20,18 +21,46 @@ pub fn fact_count(random: &mut Random) -> u8 {
 }
 
 pub fn action(random: &mut Random, facts: u64) -> Action {
-    Action { pre: random.mask(facts, 2), add: random.mask(facts, 2), del: random.mask(facts, 1) }
+    Action {
+        pre: random.mask(facts, 2),
+        add: random.mask(facts, 2),
+        del: random.mask(facts, 1),
+        ..Action::NOTHING
+    }
 }
 
-/// A task without actions and goal: of version 2, with some of `open` unknown, in a third of the cases. `init` has none of
-/// these facts.
+/// An action that may need facts off, where the version has such a mask; now and then one that it needs on as well.
+pub fn action_of(random: &mut Random, version: u8, facts: u64) -> Action {
+    let mut action = action(random, facts);
+    need_off(random, version, facts, std::slice::from_mut(&mut action));
+    action
+}
+
+/// Facts that are to be off, where the version has such masks: mostly none of those that are to be on.
+pub fn some_off(random: &mut Random, version: u8, facts: u64, on: u64) -> u64 {
+    if !Places::of(version).has_off() {
+        return 0;
+    }
+    let within = if random.chance(90) { facts & !on } else { facts };
+    let thin = random.between(1, 3);
+    random.mask(within, thin)
+}
+
+/// Lets the actions need facts off, where the version has such masks: they then apply in fewer states.
+pub fn need_off(random: &mut Random, version: u8, facts: u64, actions: &mut [Action]) {
+    actions.iter_mut().for_each(|action| action.off = some_off(random, version, facts, action.pre));
+}
+
+/// A task without actions and goal: of version 1 in half of the cases, else of 2 or 3, with some of `open` unknown. `init` has none
+/// of these facts.
 fn begun(random: &mut Random, n: u8, init: State, open: u64, most: usize) -> Task {
     let task = Task { facts: n, init, ..Task::default() };
-    if random.chance(65) {
+    let version = random.pick(&[1, 1, 1, 1, 1, 2, 2, 3, 3, 3]);
+    if version == 1 {
         return task;
     }
     let count = random.between(0, most);
-    Task { version: 2, unknown: some_facts(random, open, count), ..task }
+    Task { version, unknown: some_facts(random, open, count), ..task }
 }
 
 /// So many facts of a mask, or all of them where it has fewer.
@@ -47,7 +76,7 @@ pub fn reachable(random: &mut Random, n: u8, limit: usize) -> (Task, BTreeSet<St
     let mut task = begun(random, n, init, facts & !init, 4);
     let mut states: BTreeSet<State> = task.inits().collect();
     for _ in 0..random.between(0, 6) {
-        task.actions.push(action(random, facts));
+        task.actions.push(action_of(random, task.version, facts));
         match explore(&task, limit) {
             Some(more) => states = more,
             None => drop(task.actions.pop()),
@@ -55,6 +84,7 @@ pub fn reachable(random: &mut Random, n: u8, limit: usize) -> (Task, BTreeSet<St
     }
     for thin in [1, 1, 2, 2, 1, 0] {
         task.goal = random.mask(facts, thin);
+        task.goal_off = some_off(random, task.version, facts, task.goal);
         if !states.iter().any(|s| task.is_goal(*s)) {
             break;
         }
@@ -101,8 +131,8 @@ pub fn clause(random: &mut Random, method: Method, facts: u64) -> Clause {
 
 /// Whether every state that the action applies in, that meets `left` (already about the
 /// state before it), meets the clause too.
-fn implied(left: &[Clause], pre: u64, clause: Clause, facts: u64) -> bool {
-    let mut known = Known { on: pre, off: !facts };
+fn implied(left: &[Clause], action: &Action, clause: Clause, facts: u64) -> bool {
+    let mut known = Known { on: action.pre, off: !facts | action.off };
     !known.fail(clause) || !propagate_units(left, &mut known)
 }
 
@@ -119,7 +149,11 @@ pub fn forward(random: &mut Random, n: u8, method: Method, sizes: (usize, usize)
     let init = random.mask(facts, 1) & !lacking;
     let goal = lacking | random.mask(facts, 2);
     let task = begun(random, n, init, facts & !init & !lacking, 16);
-    let mut clauses = vec![Clause { positive: 0, negative: lacking | random.bit(goal) }];
+    let goal_off = some_off(random, task.version, facts, goal);
+    let mut clauses = vec![match goal_off != 0 && random.chance(50) {
+        true => Clause { positive: random.bit(goal_off), negative: lacking },
+        false => Clause { positive: 0, negative: lacking | random.bit(goal) },
+    }];
     for _ in 0..20 * sizes.0 {
         let next = clause(random, method, facts);
         if clauses.len() < sizes.0 && met_by_inits(&task, next) && !clauses.contains(&next) {
@@ -129,25 +163,31 @@ pub fn forward(random: &mut Random, n: u8, method: Method, sizes: (usize, usize)
     let mut actions = Vec::new();
     for _ in 0..3 * sizes.1 {
         let thin = random.between(1, 4);
-        let mut next = action(random, facts);
+        let mut next = action_of(random, task.version, facts);
         next.del &= random.mask(facts, thin);
         next.add &= random.mask(facts, thin);
-        if actions.len() < sizes.1 && keep_forward(random, &mut next, &clauses, facts) {
+        if actions.len() < sizes.1 && keep_forward(random, &task, &mut next, &clauses) {
             actions.push(next);
         }
     }
-    (Task { goal, actions, ..task }, clauses)
+    (Task { goal, goal_off, actions, ..task }, clauses)
 }
 
 /// Changes the action until it keeps the clauses; false where that takes too long.
-fn keep_forward(random: &mut Random, action: &mut Action, clauses: &[Clause], facts: u64) -> bool {
+fn keep_forward(random: &mut Random, task: &Task, action: &mut Action, clauses: &[Clause]) -> bool {
     let open: Vec<Clause> = clauses.iter().copied().filter(|c| c.positive & c.negative == 0).collect();
     for _ in 0..60 {
         let lost = clauses.iter().copied().find(|c| {
             let after = pulled(*c, action);
-            after.is_some_and(|c| !implied(&open, action.pre, c, facts))
+            after.is_some_and(|c| !implied(&open, action, c, task.all_facts()))
         });
         let Some(clause) = lost else { return true };
+        // What is off and stays off keeps the clause too.
+        let stays = pulled(clause, action).map_or(0, |clause| clause.negative);
+        if stays != 0 && Places::of(task.version).has_off() && random.chance(40) {
+            action.off |= random.bit(stays);
+            continue;
+        }
         let literal = random.bit(clause.positive | clause.negative);
         if literal == 0 {
             return false;
@@ -169,13 +209,18 @@ pub fn backward(random: &mut Random, n: u8, method: Method, sizes: (usize, usize
     let init = random.mask(facts, 1) & !lacking;
     let goal = lacking | random.mask(facts, 2);
     let task = begun(random, n, init, facts & !init & !lacking, 16);
+    let goal_off = some_off(random, task.version, facts, goal);
     let mut clauses = vec![Clause { positive: lacking, negative: random.mask(init, 1) }];
     if method == Method::TwoCnf {
         clauses[0].negative = random.bit(init);
     }
     for _ in 0..20 * sizes.0 {
         let mut next = clause(random, method, facts);
-        next.positive = if next.positive & goal == 0 { random.bit(goal) } else { next.positive };
+        if goal_off != 0 && random.chance(50) {
+            next.negative |= random.bit(goal_off);
+        } else if next.positive & goal == 0 {
+            next.positive = random.bit(goal);
+        }
         let lawful = if method == Method::Horn { next.is_horn() } else { next.is_two_literal() };
         if clauses.len() < sizes.0 && lawful && !clauses.contains(&next) {
             clauses.push(next);
@@ -183,16 +228,17 @@ pub fn backward(random: &mut Random, n: u8, method: Method, sizes: (usize, usize
     }
     let mut actions = Vec::new();
     for _ in 0..sizes.1 {
-        let mut next = action(random, facts);
-        keep_backward(random, &mut next, &clauses, facts);
+        let mut next = action_of(random, task.version, facts);
+        keep_backward(random, &task, &mut next, &clauses);
         actions.push(next);
     }
-    (Task { goal, actions, ..task }, clauses)
+    (Task { goal, goal_off, actions, ..task }, clauses)
 }
 
 /// Changes the action until a state before it meets the clauses where the one after it
-/// does. Each clause has a positive fact, which can be made a precondition.
-fn keep_backward(random: &mut Random, action: &mut Action, clauses: &[Clause], facts: u64) {
+/// does. Each clause has a positive fact, which can be needed on, or one that can be needed off.
+fn keep_backward(random: &mut Random, task: &Task, action: &mut Action, clauses: &[Clause]) {
+    let has_off = Places::of(task.version).has_off();
     for clause in clauses {
         if random.chance(50) {
             action.add &= !clause.positive;
@@ -201,8 +247,12 @@ fn keep_backward(random: &mut Random, action: &mut Action, clauses: &[Clause], f
     loop {
         let open = clauses.iter().filter_map(|c| pulled(*c, action));
         let open: Vec<Clause> = open.filter(|c| c.positive & c.negative == 0).collect();
-        let lost = clauses.iter().find(|c| !implied(&open, action.pre, **c, facts));
+        let lost = clauses.iter().find(|c| !implied(&open, action, **c, task.all_facts()));
         let Some(clause) = lost else { return };
-        action.pre |= clause.positive;
+        if clause.positive == 0 || has_off && clause.negative != 0 && random.chance(50) {
+            action.off |= random.bit(clause.negative);
+        } else {
+            action.pre |= clause.positive;
+        }
     }
 }

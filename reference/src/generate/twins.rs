@@ -1,12 +1,8 @@
 //! Twins: a case with a file of version 1, and the same with the file of version 2 that has no unknown fact and is the same behind
 //! its mask; and what their replies have in common.
 
-use crate::generate::listed::listed_case;
-use crate::generate::numbered::numbered_case;
 use crate::generate::random::Random;
-use crate::generate::rounds::round_case;
-use crate::generate::small::small_case;
-use crate::generate::{case, limits, Call, Case};
+use crate::generate::{any_case, limits, Call, Case};
 use crate::layout::{Limits, MAX_BYTES};
 use crate::version::Places;
 
@@ -20,11 +16,7 @@ fn pair(random: &mut Random) -> [Case; 2] {
     loop {
         let first = match random.below(200) {
             0 => Case { call: Call::Check, bytes: limits::full_file(random.below(2)) },
-            1..=99 => case(random),
-            100..=119 => listed_case(random),
-            120..=139 => numbered_case(random),
-            140..=159 => round_case(random),
-            _ => small_case(random),
+            _ => any_case(random),
         };
         if let Some(bytes) = twin(&first.bytes) {
             return [first.clone(), Case { bytes, ..first }];

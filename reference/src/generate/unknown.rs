@@ -1,4 +1,4 @@
-//! Files of version 2 with unknown facts: certificates over all initial states, and ones in which the mask is changed a little or an
+//! Files of versions 2 and 3 with unknown facts: certificates over all initial states, and ones in which the mask is changed a little or an
 //! initial state is left out; explicit statements with about as many unknown facts as kind 1 gives leave for, or many more; masks with
 //! faults, and faults before and behind them.
 
@@ -8,10 +8,8 @@ use crate::generate::builder::{Builder, ALL, EMPTY, GOAL, INIT};
 use crate::generate::certificates::{by_pg, by_pi, finish};
 use crate::generate::limits::Cube;
 use crate::generate::random::Random;
-use crate::generate::tasks::{self, some_facts};
-use crate::generate::{applications, certificate, mutate, Call, Case};
-use crate::layout::MAX_STEPS;
-use crate::rules::RULES;
+use crate::generate::tasks::{self, need_off, some_facts, some_off};
+use crate::generate::{applications, certificate, mutate, some_call, Case};
 use crate::shape::MAX_UNKNOWN;
 use crate::task::{all_facts, Action, Task};
 use crate::version::Places;
@@ -28,7 +26,7 @@ pub(super) fn unknown_case(random: &mut Random) -> Case {
         55 | 56 => cube(random),
         _ => wide(random),
     };
-    let call = some_call(random, &d);
+    let call = some_call(random, &d, |random| about_init(random, &d));
     let bytes = match random.below(20) {
         0..=3 => {
             nearly(random, &mut d);
@@ -86,10 +84,11 @@ fn cube(random: &mut Random) -> Draft {
     if random.chance(30) {
         states.remove(random.below(states.len()));
     }
-    let actions = (0..random.between(1, 4)).map(|_| cube.action(random)).collect();
-    let mut d = cube.certificate(random, init, actions, states);
-    (d.version, d.unknown) = (2, unknown);
-    d
+    let (free, version) = (cube.free, random.pick(&[2, 3]));
+    let mut actions: Vec<_> = (0..random.between(1, 4)).map(|_| cube.action(random)).collect();
+    need_off(random, version, free, &mut actions);
+    let d = cube.certificate(random, init, actions, states);
+    Draft { version, unknown, goal_off: some_off(random, version, free, d.goal), ..d }
 }
 
 /// A certificate by one clause, which any number of unknown facts may go with, and beside it statements over lists of states: all but
@@ -104,7 +103,10 @@ fn wide(random: &mut Random) -> Draft {
     let goal = lacking | random.mask(others, 3);
     let mut actions: Vec<_> = (0..random.between(0, 4)).map(|_| tasks::action(random, others)).collect();
     actions.iter_mut().for_each(|action| action.pre = random.mask(action.pre, 2));
-    let task = Task { version: 2, facts: n as u8, init, unknown, goal, actions };
+    let version = random.pick(&[2, 3]);
+    need_off(random, version, others, &mut actions);
+    let goal_off = some_off(random, version, others, goal);
+    let task = Task { version, facts: n as u8, init, unknown, goal, goal_off, actions };
     let mut b = Builder::new(task, random);
     let s = b.clauses(StateSet::Horn, &[Clause { positive: 0, negative: lacking }]);
     let ending = if b.random.chance(50) { by_pg(&mut b, s) } else { by_pi(&mut b, s) };
@@ -219,25 +221,15 @@ fn faulty_mask(random: &mut Random, d: &mut Draft) -> Vec<u8> {
     bytes
 }
 
-/// Mostly a check or a question about the initial states and what is made of them; else a round, the small limits, or a list of rule
-/// numbers as they are.
-fn some_call(random: &mut Random, d: &Draft) -> Call {
-    match random.below(20) {
-        0..=5 => {
-            let changed = if random.chance(40) { random.bit(all_facts(d.facts)) } else { 0 };
-            let state = (d.init | random.mask(d.unknown, 1)) ^ changed;
-            let about = |set: &DraftSet| match set {
-                DraftSet::Init => true,
-                DraftSet::Complement(s) | DraftSet::Regression(s, _) => *s == INIT,
-                DraftSet::Intersection(s, u) | DraftSet::Union(s, u) => [*s, *u].contains(&INIT),
-                _ => false,
-            };
-            let entry = mutate::choose(random, &d.state_sets, about).unwrap_or(0);
-            Call::Ask(entry as u64, state)
-        }
-        6 => Call::Round(random.below(d.steps.len()) as u64, random.between(1, MAX_STEPS) as u64),
-        7 => Call::Small,
-        8 => Call::Numbered((1..=RULES.len() as u8).collect()),
-        _ => Call::Check,
-    }
+/// A question about the initial states and what is made of them.
+fn about_init(random: &mut Random, d: &Draft) -> (u64, u64) {
+    let changed = if random.chance(40) { random.bit(all_facts(d.facts)) } else { 0 };
+    let state = (d.init | random.mask(d.unknown, 1)) ^ changed;
+    let about = |set: &DraftSet| match set {
+        DraftSet::Init => true,
+        DraftSet::Complement(s) | DraftSet::Regression(s, _) => *s == INIT,
+        DraftSet::Intersection(s, u) | DraftSet::Union(s, u) => [*s, *u].contains(&INIT),
+        _ => false,
+    };
+    (mutate::choose(random, &d.state_sets, about).unwrap_or(0) as u64, state)
 }

@@ -50,7 +50,7 @@ impl Meaning {
         match set {
             DraftSet::Empty => false,
             DraftSet::Init => is_init(&self.draft, state),
-            DraftSet::Goal => self.draft.goal & !state == 0,
+            DraftSet::Goal => is_goal(&self.draft, state),
             DraftSet::Explicit(states) => states.contains(&state),
             DraftSet::Horn(clauses) | DraftSet::TwoCnf(clauses) => {
                 clauses.iter().all(|clause| meets(clause, state))
@@ -100,10 +100,16 @@ pub fn is_init(draft: &Draft, state: u64) -> bool {
     (0..64).all(|f| on(draft.unknown, f) || on(state, f) == on(draft.init, f))
 }
 
+/// Whether the state is a goal state: each fact of the goal is on, each of its facts off is off.
+pub fn is_goal(draft: &Draft, state: u64) -> bool {
+    let on = |mask: u64, f: u8| mask >> f & 1 == 1;
+    (0..64).all(|f| if on(state, f) { !on(draft.goal_off, f) } else { !on(draft.goal, f) })
+}
+
 /// The state that the action leads to, fact by fact; none where it does not apply.
 pub fn lead(action: &Action, from: u64) -> Option<u64> {
     let on = |mask: u64, f: u8| mask >> f & 1 == 1;
-    let applies = (0..64).all(|f| !on(action.pre, f) || on(from, f));
+    let applies = (0..64).all(|f| if on(from, f) { !on(action.off, f) } else { !on(action.pre, f) });
     let after = |f: u8| on(action.add, f) || (on(from, f) && !on(action.del, f));
     applies.then(|| (0..64).filter(|f| after(*f)).map(|f| 1u64 << f).sum())
 }
@@ -124,7 +130,7 @@ pub fn has_state(draft: &Draft, entry: u16, state: u64, from: Option<(u64, u16)>
     match &draft.state_sets[entry as usize] {
         DraftSet::Empty => false,
         DraftSet::Init => is_init(draft, state),
-        DraftSet::Goal => draft.goal & !state == 0,
+        DraftSet::Goal => is_goal(draft, state),
         DraftSet::Explicit(states) => states.contains(&state),
         DraftSet::Horn(clauses) | DraftSet::TwoCnf(clauses) => clauses.iter().all(|c| meets(c, state)),
         DraftSet::Complement(s) => !has(*s, state),

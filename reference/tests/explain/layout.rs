@@ -11,6 +11,7 @@ use reference::explain::layout::{Allowed, LayoutFault};
 use reference::explain::Why;
 use reference::fault::Item;
 use reference::generate::limits::full_file;
+use reference::generate::off::off;
 use reference::generate::random::Random;
 use reference::generate::unknown::unknown;
 use reference::generate::{cases, damaged, mutate};
@@ -164,13 +165,13 @@ fn text_before(text: &str) -> &str {
 }
 
 /// How many of the items of the head (facts, init, and with the unknown facts or without them the goal) and which lists stand before the
-/// item: lists are actions, action sets, state sets and steps.
+/// item: lists are actions, action sets, state sets and steps. The goal's facts off are in the goal's line.
 fn section(item: Item) -> usize {
     use reference::fault::Group::*;
     match item {
         Item::Whole | Item::Field("version" | "fact count") => 0,
         Item::Field("init") => 1,
-        Item::Field("unknown mask" | "goal") => 2,
+        Item::Field("unknown mask" | "goal" | "goal off mask") => 2,
         Item::Field("action count") | Item::Mask(..) => 3,
         Item::Field("action set count") => 4,
         Item::Entry(ActionSet, _) | Item::EntryLength(ActionSet, _) | Item::EntryKind(ActionSet, _) => 4,
@@ -188,8 +189,12 @@ fn count_places(draft: &Draft) -> [usize; 4] {
     let steps = d.encode().len() - 2;
     d.state_sets.clear();
     let state_sets = d.encode().len() - 4;
-    let actions = if draft.version == 2 { 30 } else { 22 };
-    [actions, actions + 2 + 24 * draft.actions.len(), state_sets, steps]
+    let (actions, action) = match draft.version {
+        1 => (22, 24),
+        2 => (30, 24),
+        _ => (38, 32),
+    };
+    [actions, actions + 2 + action * draft.actions.len(), state_sets, steps]
 }
 
 /// The text before the fault assembles to the bytes before the item with the fault, but for the count of
@@ -200,13 +205,17 @@ fn text_is_the_beginning(told: &Told) {
     let (made, bytes) = (draft.encode(), told.bytes);
     let place = told.fault.bytes.start;
     let items = before.lines().filter(|line| !line.starts_with('#')).count();
-    // Version 2 stands in the text, and the unknown facts before the goal.
-    let second = (draft.version == 2) as usize;
-    let masks = (told.fault.item == Item::Field("goal")) as usize * second;
+    // Versions 2 and 3 stand in the text, and the unknown facts before the goal.
+    let later = (draft.version > 1) as usize;
+    let (lines, masks) = match told.fault.item {
+        Item::Field("goal") => (later, later),
+        Item::Field("goal off mask") => (2, 2),
+        _ => (0, 0),
+    };
     match section(told.fault.item) {
-        0 => assert_eq!(before, ["", "version 2"][second]),
+        0 => assert_eq!(before, ["", "version 2", "version 3"][draft.version as usize - 1]),
         head @ 1..=2 => {
-            assert_eq!((items, place), (head + second + masks, 6 + 8 * (head - 1 + masks)));
+            assert_eq!((items, place), (head + later + lines, 6 + 8 * (head - 1 + masks)));
             assert_eq!(made[4..place], bytes[4..place]);
         }
         list => {
@@ -256,7 +265,7 @@ fn fields_of_damaged_files() {
         }
         d.encode()
     });
-    let masks = unknown(34, 3000).map(|case| case.bytes);
+    let masks = unknown(34, 3000).chain(off(34, 3000)).map(|case| case.bytes);
     let files = generated.chain(noise).chain(lists).chain(masks);
     for bytes in files.filter(|bytes| bytes.len() < 5000) {
         examine(&bytes, &explained(&bytes), &mut seen);
@@ -268,8 +277,9 @@ fn fields_of_damaged_files() {
     let faults = lengths.into_iter().chain(contents);
     seen.0.each_at_least(40, faults.map(|(number, allowed)| (number, allowed.to_string())));
     seen.0.each_at_least(10, [(1, "Whole".to_string())]);
-    let fields = ["version", "fact count", "init", "unknown mask", "goal"].into_iter().chain(COUNTS);
-    seen.1.each_at_least(20, fields.chain(["pre", "add", "del", "entry", "length", "kind"]));
+    let fields = ["version", "fact count", "init", "unknown mask", "goal", "goal off mask"].into_iter();
+    let fields = fields.chain(COUNTS).chain(["pre", "add", "del", "off", "entry", "length", "kind"]);
+    seen.1.each_at_least(20, fields);
     seen.1.each_at_least(30, ["action", "reference", "state", "clause", "step", "rest"]);
 }
 

@@ -80,7 +80,7 @@ fn any_bytes() {
     let mut seen: Tally<String> = Tally::new();
     let mut random = Random::new(37);
     let files: Vec<Vec<u8>> =
-        cases(45, 100).map(|case| case.bytes).filter(|b| (1..2000).contains(&b.len())).collect();
+        cases(49, 100).map(|case| case.bytes).filter(|b| (1..2000).contains(&b.len())).collect();
     for round in 0..20_000 {
         let mut bytes = files[random.below(files.len())].clone();
         for _ in 0..random.between(1, 4) {

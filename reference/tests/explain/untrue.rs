@@ -11,6 +11,7 @@ use reference::explain::Why;
 use reference::file::{Clause, Judgement, StateSet, Step};
 use reference::generate::applications::{add_pool, basic};
 use reference::generate::builder::Builder;
+use reference::generate::off::off;
 use reference::generate::random::Random;
 use reference::generate::unknown::unknown;
 use reference::generate::worst::{no_model, two_right_leaves, Left, Order};
@@ -286,7 +287,8 @@ fn models_that_only_later_actions_have() {
 #[test]
 fn whole_files() {
     let mut seen: Tally<u8> = Tally::new();
-    for case in cases(31, 4000).chain(unknown(31, 3000)).filter(|case| case.is_check()) {
+    let all = cases(31, 4000).chain(unknown(31, 3000)).chain(off(31, 3000));
+    for case in all.filter(|case| case.is_check()) {
         let Ok(file) = layout::read(&case.bytes) else { continue };
         let explained = explained(&case.bytes);
         let Reply::Refused { number: 8..=12, place } = explained.reply else { continue };

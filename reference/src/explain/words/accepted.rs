@@ -2,11 +2,12 @@
 
 use std::collections::BTreeSet;
 
-use super::text::{counted, Text};
+use super::text::{counted, few, Text};
 use crate::draft::DraftSet;
 use crate::explain::accepted::{closure, Argument, Closure};
 use crate::file::{File, StateSet};
 use crate::rules::by_number;
+use crate::show;
 
 /// The argument in lines.
 pub fn words(text: &Text, file: &File, argument: &Argument) -> Vec<String> {
@@ -43,13 +44,24 @@ fn rule_name(file: &File, number: usize) -> &'static str {
 }
 
 fn task(text: &Text) -> Vec<String> {
-    let (init, goal) = (text.inits(), text.names.facts_of(text.draft.goal));
+    let (init, goal) = (text.inits(), text.names.goal(text.draft.goal, text.draft.goal_off));
     let facts = counted(text.draft.facts as usize, "fact");
     let actions = counted(text.draft.actions.len(), "action");
-    vec![
-        format!("No sequence of actions leads from init, {init}, to a goal state, one with {goal} on."),
+    let mut lines = vec![
+        format!("No sequence of actions leads from init, {init}, to a goal state, one with {goal}."),
         format!("The task has {facts} and {actions}."),
-    ]
+    ];
+    lines.extend(never_applying(text));
+    lines
+}
+
+/// The actions that need a fact both on and off, where there are any.
+fn never_applying(text: &Text) -> Option<String> {
+    let never = (0..text.draft.actions.len()).filter(|a| text.draft.actions[*a].never_applies());
+    let never: Vec<String> = never.map(|a| show::action_title(a, text.names)).collect();
+    let verb = if never.len() == 1 { "applies" } else { "apply" };
+    let head = format!("{} never {verb}, needing a fact both on and off:", counted(never.len(), "action"));
+    (!never.is_empty()).then(|| format!("{head} {}.", few(never)))
 }
 
 /// The sets that are closed under the actions, forwards (PG, PI) or backwards (RG, RI).

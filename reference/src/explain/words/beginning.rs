@@ -14,7 +14,7 @@ use crate::version::Places;
 pub fn lines(bytes: &[u8], read: &Examined, fault: &LayoutFault, names: &Names) -> Vec<String> {
     let draft = Draft::of(&read.file);
     let mut lines = head(&draft, fault.item, names);
-    lines.extend(draft.actions.iter().enumerate().map(|(a, action)| show::action_line(a, action, names)));
+    lines.extend((0..draft.actions.len()).map(|a| show::action_line(&draft, a, names)));
     let sets = draft.action_sets.iter().enumerate();
     lines.extend(sets.map(|(e, set)| format!("actions {e} {}", show::action_set(set, names, ALL))));
     let sets = draft.state_sets.iter().enumerate();
@@ -30,8 +30,9 @@ fn head(draft: &Draft, item: Item, names: &Names) -> Vec<String> {
     if matches!(item, Item::Whole | Item::Field("version")) {
         return Vec::new();
     }
-    let before = show::head_lines(draft, names).into_iter();
-    before.take_while(|(field, _)| item != Item::Field(field)).map(|(_, line)| line).collect()
+    let before = show::head_parts(draft, names).into_iter();
+    let before = before.take_while(|(field, _)| item != Item::Field(field)).map(|(_, part)| part);
+    before.collect::<String>().lines().map(String::from).collect()
 }
 
 /// The beginning of the action, list, or set of clauses in which the fault lies.
@@ -39,11 +40,10 @@ fn begun(bytes: &[u8], file: &File, fault: &LayoutFault, names: &Names) -> Optio
     let word = |place: usize| number(bytes, place, 8);
     match fault.item {
         Item::Mask(a, mask) => {
-            let masks = ["pre", "add", "del"].into_iter().take_while(|other| *other != mask);
             let places = Places::of(file.task.version);
             let first = places.actions + places.action * a as usize;
-            let masks =
-                masks.enumerate().map(|(k, name)| format!(" {name} {}", names.facts_of(word(first + 8 * k))));
+            let masks = places.masks.iter().take_while(|other| **other != mask).enumerate();
+            let masks = masks.map(|(k, name)| format!(" {name} {}", names.facts_of(word(first + 8 * k))));
             Some(format!("{}{}", show::action_title(a as usize, names), masks.collect::<String>()))
         }
         Item::Part(group, entry, part, count) => {

@@ -35,7 +35,10 @@ fn about_states(text: &Text, sides: &Sides, found: Counterexample) -> Vec<String
     let head = |word: &str, state| vec![format!("  {word}{}", text.state(state))];
     let by = |action| {
         let set = sides.bracket.as_ref().map_or(String::new(), |bracket| text.actions(bracket.actions));
-        vec![format!("  by {}", text.action(action)), format!("    in {set}; it applies")]
+        vec![
+            format!("  by {}", text.action(action)),
+            format!("    in {set}; it applies{}", off(text, action)),
+        ]
     };
     match found {
         Counterexample::State { state } => [head("", state), outside(state)].concat(),
@@ -46,6 +49,14 @@ fn about_states(text: &Text, sides: &Sides, found: Counterexample) -> Vec<String
             [head("before: ", before), outside(before), by(action), head("after: ", after), inside].concat()
         }
         Counterexample::Action { .. } => Vec::new(),
+    }
+}
+
+/// That what the action needs off is off, where there is such a fact.
+fn off(text: &Text, action: u16) -> String {
+    match text.draft.actions[action as usize].off {
+        0 => String::new(),
+        off => format!(", since {} is off before it", text.names.facts_of(off)),
     }
 }
 
@@ -75,10 +86,13 @@ fn missing(text: &Text, entry: u16, state: State) -> String {
         DraftSet::Init if text.draft.unknown == 0 => {
             format!("which is {} alone", text.state(text.draft.init))
         }
-        DraftSet::Init => not_initial(text, state),
+        DraftSet::Init => {
+            let Draft { init, unknown, .. } = text.draft;
+            format!("which wants {}", text.names.on_and_off(init & !state, state & !init & !unknown))
+        }
         DraftSet::Goal => {
-            let off = text.names.facts_of(text.draft.goal & !state);
-            format!("which wants {off} on as well")
+            let Draft { goal, goal_off, .. } = text.draft;
+            format!("which wants {} as well", text.names.on_and_off(goal & !state, goal_off & state))
         }
         DraftSet::Explicit(states) => format!("which does not list it ({})", counted(states.len(), "state")),
         DraftSet::Horn(clauses) | DraftSet::TwoCnf(clauses) => unmet(text, clauses, state),
@@ -87,15 +101,6 @@ fn missing(text: &Text, entry: u16, state: State) -> String {
         DraftSet::Progression(..) | DraftSet::Regression(..) => String::new(),
     };
     format!("not in {}, {why}", text.set(entry))
-}
-
-/// The known facts in which the state is no initial one.
-fn not_initial(text: &Text, state: State) -> String {
-    let Draft { init, unknown, .. } = text.draft;
-    let wanted = [(init & !state, "on"), (state & !init & !unknown, "off")];
-    let differing = wanted.into_iter().filter(|(facts, _)| *facts != 0);
-    let words = differing.map(|(facts, word)| format!("{} {word}", text.names.facts_of(facts)));
-    format!("which wants {}", words.collect::<Vec<_>>().join(" and "))
 }
 
 /// The first clause that the state does not meet, counted from 0.

@@ -36,9 +36,11 @@ fn name(bytes: &[u8], file: &File, fault: &LayoutFault, names: &Names) -> String
         Item::Field("goal") => "the goal mask".into(),
         Item::Field("init") => "the init state".into(),
         Item::Field("unknown mask") => "the mask of unknown facts".into(),
+        Item::Field("goal off mask") => "the mask of facts that are off in a goal state".into(),
         Item::Field(field) => format!("the {field}"),
         Item::Mask(action, mask) => {
-            format!("{}, its {mask} mask", show::action_title(action as usize, names))
+            let of = if mask == "off" { " of facts that it needs off" } else { "" };
+            format!("{}, its {mask} mask{of}", show::action_title(action as usize, names))
         }
         Item::Entry(group, entry) => format!("{} {entry}", group_name(group)),
         Item::EntryLength(group, entry) => format!("{} {entry}, its length", group_name(group)),

@@ -82,7 +82,7 @@ impl Text<'_> {
 
     /// An action with its masks, `action 1 pre {} add {1} del {0}`.
     pub fn action(&self, action: u16) -> String {
-        show::action_line(action as usize, &self.draft.actions[action as usize], self.names)
+        show::action_line(self.draft, action as usize, self.names)
     }
 
     /// The kind of a state set in words and as a number.
@@ -133,6 +133,15 @@ pub fn actions_kind(set: &DraftActions) -> u8 {
         DraftActions::List(_) => 1,
         DraftActions::Union(..) => 2,
     }
+}
+
+/// The first few of these things, with commas between them.
+pub fn few(mut things: Vec<String>) -> String {
+    if things.len() > FEW {
+        things.truncate(FEW);
+        things.push("...".into());
+    }
+    things.join(", ")
 }
 
 /// A number and the thing that is counted, `1 leaf` or `2 states`.
