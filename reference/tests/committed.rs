@@ -1,14 +1,18 @@
 //! The cases that stand in crates/vectors, so that the proved checker is held to them with no generator at hand: their replies are
-//! those given today, every reply and rule is among them, and so are explicit sets in any order with repeats, and unknown facts.
+//! those given today, every reply and rule is among them, and so are explicit sets in any order with repeats, unknown facts, and facts
+//! needed off.
 
 use std::collections::BTreeSet;
 use std::path::PathBuf;
 
 use reference::fault::{Cause, Fault, Item};
+use reference::file::File;
+use reference::generate::off::Misreading;
 use reference::generate::relisted::bodies;
 use reference::generate::{Call, Case};
 use reference::layout::{self, Limits};
-use reference::steps::check_step;
+use reference::steps::{self, check_step};
+use reference::task::Action;
 use reference::{check, Reply};
 
 fn read(name: &str) -> Vec<u8> {
@@ -79,14 +83,14 @@ fn states_in_any_order_are_among_them() {
     assert_eq!(limits, [512, 513, 4096, 4097].into());
 }
 
-/// Version 2 with no unknown fact, with a few, with the 12 for which kind 1 gives leave and the 13 for which it gives none; and an
+/// Versions 2 and 3 with no unknown fact, with a few, with the 12 for which kind 1 gives leave and the 13 for which it gives none; and an
 /// explicit set of 4,096 states in such a file.
 #[test]
 fn unknown_facts_are_among_them() {
     let (mut seen, mut longest) = (BTreeSet::new(), 0);
     for case in cases(&read("stdin")) {
         let Ok(file) = layout::read(&case.bytes) else { continue };
-        if file.task.version == 2 {
+        if file.task.version > 1 {
             let reply = case.reply().split(' ').take(2).collect::<Vec<&str>>().join(" ");
             seen.insert((file.task.unknown.count_ones(), reply));
             let states = bodies(&case.bytes).into_iter().map(|body| body.len() / 8);
@@ -104,6 +108,40 @@ fn unknown_facts_are_among_them() {
         }
     }
     assert_eq!(longest, 4096);
+}
+
+/// Files of version 3, accepted and refused ones, that each misreading of the masks would reply otherwise to; an accepted one with an
+/// action that never applies, one with a goal of no state; a goal of all states; 3 and 5 at either mask of facts off, and 16.
+#[test]
+fn facts_needed_off_are_among_them() {
+    let (mut told, mut forms, mut faults) = (BTreeSet::new(), BTreeSet::new(), BTreeSet::new());
+    for case in cases(&read("stdin")) {
+        if case.bytes.get(4) == Some(&3) {
+            faults.insert(case.reply());
+        }
+        let Ok(file) = layout::read(&case.bytes) else { continue };
+        if file.task.version != 3 || !case.is_check() {
+            continue;
+        }
+        let (right, task) = (check(&case.bytes), &file.task);
+        let accepted = right == Reply::Accepted;
+        for misreading in Misreading::ALL {
+            let misread = File { task: misreading.of(task), ..file.clone() };
+            if Reply::from(steps::check(&misread)) != right {
+                told.insert(format!("{misreading:?} {accepted}"));
+            }
+        }
+        let never = task.actions.iter().any(Action::never_applies);
+        let (on, off) = (task.goal, task.goal_off);
+        let found = [never && accepted, on & off != 0 && accepted, on | off == 0];
+        forms.extend(
+            ["never", "no goal", "any goal"].into_iter().zip(found).filter(|one| one.1).map(|one| one.0),
+        );
+    }
+    assert_eq!((told.len(), forms.len()), (2 * Misreading::ALL.len(), 3), "{told:?} {forms:?}");
+    for fault in ["refused 3 30", "refused 3 64", "refused 5 30", "refused 5 64", "refused 16 14"] {
+        assert!(faults.contains(fault), "{fault}");
+    }
 }
 
 #[test]
