@@ -40,7 +40,7 @@ type Check = unsafe extern "C" fn(*const u8, usize) -> u64;
 type CheckNumbered = unsafe extern "C" fn(*const u8, usize, *const u8, usize) -> u64;
 
 /// A build's functions, as `certificate.h` declares them; an early build has no lists of rule numbers, takes explicit states that ascend
-/// alone, and reads version 1 alone. The object stays loaded.
+/// alone, and reads version 1 alone or 1 and 2. The object stays loaded.
 pub struct Build {
     check: Check,
     check_numbered: Option<CheckNumbered>,
@@ -65,7 +65,7 @@ impl Build {
     }
 
     /// The code of its reply; none where the file has a list and the build takes none, or where it says 2 or 7: no timed file is to get
-    /// these, and an early build says them of version 2 and of explicit states that do not ascend.
+    /// these, and an early build says them of later versions and of explicit states that do not ascend.
     pub fn check(&self, file: &Timed) -> Option<u64> {
         let bytes = &file.bytes;
         // They require nothing of the bytes, read no others and keep nothing.

@@ -84,6 +84,9 @@ pub fn workloads() -> Vec<Timed> {
         "W5: 3,712 listed states, a tenth of them twice, shuffled, 256 actions",
         "W6: 4,096 initial states within a list, 256 actions",
         "W6: 4,096 initial states, 256 actions from them into a list",
+        "W1 in version 3: each of 256 actions needs facts off",
+        "W2 in version 3: each of 256 actions needs a fact off",
+        "W3 in version 3: each of 256 actions needs a fact off",
     ];
     names.iter().zip(1..).map(|(name, number)| Timed::accepted(*name, &made(number))).collect()
 }
@@ -309,7 +312,7 @@ pub struct Question {
 pub fn questions() -> Vec<Question> {
     let mut all = Vec::new();
     let sets = ["the listed states of W1", "the clauses of W2", "the clauses of W3"].into_iter().zip(1..);
-    for (name, number) in sets.chain([("the shuffled states of W5", 5)]) {
+    for (name, number) in sets.chain([("the shuffled states of W5", 5), ("those of W1 in version 3", 8)]) {
         let draft = made(number);
         let (bytes, state) = (draft.encode(), draft.init);
         all.push(Question { name: name.into(), bytes, entry: 3, state, expected: Answer::In });

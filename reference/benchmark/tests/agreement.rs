@@ -201,7 +201,15 @@ fn workloads_are_as_large_as_they_say() {
     }
     assert_eq!((files[5].steps[2].rule, entry(&files[5], 2)[0]), (1, StateSet::Init));
     assert_eq!((files[6].steps[1].rule, entry(&files[6], 1)[0]), (2, StateSet::Progression(1, 0)));
-    assert_eq!(files.len(), 7);
+    // In version 3 W1 to W3 have the same entries and statements, and facts needed off.
+    for (first, third) in files[..3].iter().zip(&files[7..]) {
+        assert_eq!((first.task.version, third.task.version), (1, 3));
+        assert_eq!((&first.state_sets, &first.steps), (&third.state_sets, &third.steps));
+        assert_eq!((&first.states, &first.clauses), (&third.states, &third.clauses));
+        assert!(third.task.goal_off != 0 && third.task.actions.iter().all(|action| action.off != 0));
+        assert_eq!(third.task.actions.len(), 256);
+    }
+    assert_eq!(files.len(), 10);
 }
 
 /// How many states each explicit set lists, and how many different ones.
