@@ -603,3 +603,25 @@ fn counterexamples_over_clauses() {
     d.actions.pop();
     assert_eq!(reply(&d), "accepted");
 }
+
+/// Of the samples one is safe, since an action wants a fact off; of the other, which has that action without it, a forbidden state is
+/// within reach. A checker that ignored a mask, or looked at one of the goal's alone, would refuse the first.
+#[test]
+fn the_samples() {
+    let read = |text| parse(text).expect("a text");
+    let cooled = read(include_str!("../../samples/cooled.txt"));
+    let at_times = read(include_str!("../../samples/cooled_at_times_refused_11.txt"));
+    let forbidden = |d: &Draft| reach(d).iter().filter(|state| is_goal(d, **state)).count();
+    assert_eq!((reply(&cooled), forbidden(&cooled)), ("accepted".into(), 0));
+    assert_eq!(reply(&at_times), "refused 11 1");
+    assert!(forbidden(&at_times) > 0);
+    let mut same = at_times.clone();
+    same.actions[1].off = 1;
+    assert_eq!(same, cooled);
+    let file = layout::read(&cooled.encode()).expect("a lawful layout");
+    let told = [Misreading::Ignored, Misreading::GoalIgnored, Misreading::GoalOffAlone];
+    assert_eq!(
+        told.map(|misreading| misread(&file, misreading).to_string()),
+        ["refused 11 1", "refused 11 2", "refused 11 2"]
+    );
+}
