@@ -1,6 +1,6 @@
 /* The proved checker from C, and from C++: what it replies to files, to changes of the sample, to states in another order, to unknown
-   facts, by the small limits, to lists of rule numbers, in rounds and to questions, printed for comparison with `expected`. The first
-   file is the sample. */
+   facts, to facts needed off, by the small limits, to lists of rule numbers, in rounds and to questions, printed for comparison with
+   `expected`. The first file is the sample. */
 #include "certificate.h"
 
 #include <stdio.h>
@@ -9,10 +9,12 @@
 
 enum { LIMIT = 65537, SMALL = 16384, RULES = 28, STEP = 12 };
 
-/* Places in the sample: where version 2 has its mask, the count of its action sets and their end, its list of states, its step count and
-   steps. */
+/* Places in the sample: where version 2 has its mask, the ends of the goal's mask and of its two actions, which is where the count of its
+   action sets stands, the end of these, its list of states, its step count and steps. */
 enum {
     SAMPLE_MASK = 14,
+    SAMPLE_GOAL_END = 22,
+    SAMPLE_ACTION_0_END = 48,
     SAMPLE_ACTION_SETS = 72,
     SAMPLE_STATE_SETS = 77,
     SAMPLE_LIST = 88,
@@ -175,6 +177,59 @@ static void print_unknown(const uint8_t *sample, size_t length) {
     print_reply("fact 2 unknown", certificate_check(file, longer));
 }
 
+/* Places in the sample as version 3, each a mask's last byte but for the list: the goal's two masks, what the actions need off, what the
+   second one needs on. */
+enum { THIRD_GOAL = 29, THIRD_GOAL_OFF = 37, THIRD_OFF_0 = 71, THIRD_ON_1 = 79, THIRD_OFF_1 = 103, THIRD_LIST = 120 };
+
+/* The sample as version 3: how long the file is. The new masks are put in from the last one on, so that the places before them hold. */
+static size_t third(uint8_t *file, const uint8_t *sample, size_t length) {
+    static const uint8_t none[8] = {0};
+    static const size_t ends[] = {SAMPLE_ACTION_SETS, SAMPLE_ACTION_0_END, SAMPLE_GOAL_END, SAMPLE_MASK};
+    size_t i;
+    memcpy(file, sample, length);
+    for (i = 0; i < sizeof ends / sizeof ends[0]; i++) {
+        length = insert(file, length, ends[i], none, sizeof none);
+    }
+    file[4] = 3;
+    return length;
+}
+
+/* The sample as version 3: with no fact off; with states 0 and 1 alone listed, which no action leads out of only where the second one,
+   which makes fact 1 on, never applies; with a goal of facts off, of both masks, of a fact on and off; and with a fact that there is not
+   in each new mask. */
+static void print_off(const uint8_t *sample, size_t length) {
+    static uint8_t file[LIMIT];
+    size_t longer = third(file, sample, length);
+    print_reply("version 3", certificate_check(file, longer));
+    file[THIRD_LIST + 26] = 1;
+    file[THIRD_ON_1] = 1;
+    print_reply("states 0 1, action 1 needs fact 0 on", certificate_check(file, longer));
+    file[THIRD_OFF_1] = 1;
+    print_reply("states 0 1, on and off", certificate_check(file, longer));
+    print_reply("small, on and off", certificate_check_small(file, longer));
+    print_round("8 steps, on and off", certificate_round(file, longer, 0, 8));
+    file[THIRD_ON_1] = 0;
+    print_reply("states 0 1, off", certificate_check(file, longer));
+    file[THIRD_LIST + 26] = 2;
+    print_reply("states 0 1 2, off", certificate_check(file, longer));
+    file[THIRD_GOAL_OFF] = 1;
+    print_reply("fact 0 on and off is forbidden, which no state is", certificate_check(file, longer));
+    print_answer("state 3 in that set", certificate_ask(file, longer, 2, 3));
+    file[THIRD_GOAL] = 2;
+    print_reply("fact 1 on and fact 0 off is forbidden", certificate_check(file, longer));
+    print_answer("state 2 in that set", certificate_ask(file, longer, 2, 2));
+    print_answer("state 3 in that set", certificate_ask(file, longer, 2, 3));
+    file[THIRD_OFF_1] = 4;
+    print_reply("fact 2 needed off by action 1", certificate_check(file, longer));
+    file[THIRD_OFF_0] = 4;
+    print_reply("and by action 0", certificate_check(file, longer));
+    file[THIRD_GOAL_OFF] = 4;
+    print_reply("and off in a forbidden state", certificate_check(file, longer));
+    file[SAMPLE_MASK - 1] = 1;
+    file[SAMPLE_MASK + 7] = 1;
+    print_reply("and fact 0 on in the start and unknown", certificate_check(file, longer));
+}
+
 /* The sample with zeros after it, at each small limit and one past it: bytes; states that the length of its list says; steps that its
    count says. */
 static void print_small(const uint8_t *sample, size_t length) {
@@ -286,6 +341,7 @@ int main(int count, char **paths) {
     print_changes(bytes, length);
     print_orders(bytes, length);
     print_unknown(bytes, length);
+    print_off(bytes, length);
     print_small(bytes, length);
     print_numbered(bytes, length);
     print_rounds(bytes, length);

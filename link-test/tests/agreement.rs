@@ -5,6 +5,8 @@ use reference::draft::{mend_length, step, Draft, DraftSet};
 use reference::generate::limits::shuffle;
 use reference::generate::listed::listed;
 use reference::generate::numbered::numbered;
+use reference::generate::off::off;
+use reference::generate::older::{older, renewed, unchanged};
 use reference::generate::random::Random;
 use reference::generate::relisted::{alike, relisted};
 use reference::generate::rounds::rounds;
@@ -343,6 +345,154 @@ fn most_initial_states() {
     }
 }
 
+/// Files with facts needed off: certificates, statements that misreadings decide otherwise, near misses, masks with faults.
+#[test]
+fn off_cases() {
+    let (mut accepted, mut refused) = (0, [0; 20]);
+    for (index, case) in off(20, 6000).enumerate() {
+        let what = format!("case {index}");
+        let asked = match case.call {
+            Call::Ask(entry, state) => (entry, state),
+            _ => (2, index as u64 % 16),
+        };
+        match same_all(&case.bytes, &[asked, (2, 0), (7, index as u64 % 8)], &what) {
+            0 => accepted += 1,
+            code => refused[(code >> 32) as usize] += 1,
+        }
+        let list: Vec<u8> = (1..=28).collect();
+        assert_eq!(same_numbered(&case.bytes, &list, &what), check(&case.bytes), "{what}");
+    }
+    assert!(accepted >= 2000, "{accepted} {refused:?}");
+    assert!([3, 5, 11, 16].iter().all(|number| refused[*number] >= 100), "{refused:?}");
+}
+
+/// The sample as version 3, with these facts off in a forbidden state and needed off by its two actions, and what leads into the
+/// forbidden states and into its list as sets 7 and 8.
+fn third(goal_off: u64, off: [u64; 2]) -> Draft {
+    let mut d = Draft { version: 3, goal_off, ..reference::draft::sample() };
+    d.actions.iter_mut().zip(off).for_each(|(action, off)| action.off = off);
+    d.state_sets.extend([DraftSet::Regression(2, 0), DraftSet::Regression(3, 0)]);
+    d
+}
+
+/// The questions about these sets and each state of two facts.
+fn questions_about(entries: &[u64]) -> Vec<(u64, u64)> {
+    entries.iter().flat_map(|entry| (0..4).map(|state| (*entry, state))).collect()
+}
+
+/// The sample as version 3, its set a list, Horn or two-literal: every mask of two facts, for both masks of the goal and those that the
+/// actions need off; and each with a third fact, which is not there.
+#[test]
+fn masks_off_of_the_sample() {
+    let questions = questions_about(&[2, 7, 8]);
+    let clause = vec![reference::file::Clause { positive: 0, negative: 3 }];
+    let sets = [DraftSet::Explicit(vec![0, 1, 2]), DraftSet::Horn(clause.clone()), DraftSet::TwoCnf(clause)];
+    let mut counts = [0; 2];
+    for (masks, set) in (0..256u64).flat_map(|masks| sets.iter().map(move |set| (masks, set))) {
+        let [goal, goal_off, first, second] = [0, 2, 4, 6].map(|shift| masks >> shift & 3);
+        let mut draft = Draft { goal, ..third(goal_off, [first, second]) };
+        draft.state_sets[3] = set.clone();
+        let code = same_all(&draft.encode(), &questions, "the sample with facts off");
+        counts[(code == 0) as usize] += 1;
+        for (change, place) in [(4u64, 30), (4 << 8, 64), (4 << 16, 96)] {
+            let mut draft = draft.clone();
+            draft.goal_off |= change & 7;
+            draft
+                .actions
+                .iter_mut()
+                .zip([8, 16])
+                .for_each(|(action, shift)| action.off |= change >> shift & 7);
+            let code = same_all(&draft.encode(), &questions[..1], "a fact that is not there");
+            assert_eq!(code, 5 << 32 | place);
+        }
+    }
+    assert!(counts.iter().all(|count| *count >= 150), "{counts:?}");
+}
+
+/// Every byte of the masks of facts off changed.
+#[test]
+fn bytes_of_the_masks_off() {
+    let (mut file, questions) = (third(1, [2, 1]).encode(), questions_about(&[2, 7, 8]));
+    for at in (30..38).chain(64..72).chain(96..104) {
+        let byte = file[at];
+        for change in 0..=255 {
+            file[at] = change;
+            same_all(&file, &questions, "a mask with another byte");
+        }
+        file[at] = byte;
+    }
+}
+
+/// Each mask of version 3 has its own 3 and 5; 16 comes right after the unknown mask's 5.
+#[test]
+fn order_of_faults_in_version_3() {
+    let code = |draft: &Draft| same_all(&draft.encode(), &[(1, 0)], "the order of faults");
+    assert_eq!(code(&Draft { init: 1, unknown: 1, ..third(4, [4, 4]) }), 16 << 32 | 14);
+    assert_eq!(code(&Draft { init: 1, unknown: 5, ..third(4, [4, 4]) }), 5 << 32 | 14);
+    assert_eq!(code(&Draft { goal: 4, ..third(4, [4, 4]) }), 5 << 32 | 22);
+    assert_eq!(code(&third(4, [4, 4])), 5 << 32 | 30);
+    assert_eq!(code(&Draft { actions: vec![Action::NOTHING; 257], ..third(4, [0, 0]) }), 5 << 32 | 30);
+    assert_eq!(code(&Draft { actions: vec![Action::NOTHING; 257], ..third(0, [0, 0]) }), 4 << 32 | 38);
+    assert_eq!(code(&third(0, [4, 4])), 5 << 32 | 64);
+    assert_eq!(code(&third(0, [0, 4])), 5 << 32 | 96);
+    let whole = third(1, [1, 2]).encode();
+    assert_eq!(same_all(&whole, &[(2, 2), (7, 1)], "the sample with facts off"), 0);
+    for length in 0..whole.len() {
+        let mut part = whole[..length].to_vec();
+        same_all(&part, &[(1, 0)], "cut");
+        mend_length(&mut part);
+        let place = match length {
+            6..=37 => Some(6 + (length - 6) / 8 * 8),
+            38 | 39 => Some(38),
+            40..=103 => Some(40 + (length - 40) / 8 * 8),
+            _ => None,
+        };
+        let code = same_all(&part, &[(1, 0)], "cut with a length");
+        assert!(code != 0 && place.is_none_or(|place| code == 3 << 32 | place as u64), "{length}: {code:x}");
+    }
+}
+
+/// W1 to W3 in version 3: as they are, and with a fact of an action's masks changed, of the goal's, or a state left out.
+#[test]
+fn workloads_in_version_3() {
+    let mut random = Random::new(21);
+    for number in 8..=10 {
+        let draft = reference::generate::limits::workload(&mut Random::new(1), number);
+        assert_eq!(same_reply(&draft.encode(), "a workload in version 3"), 0);
+        for _ in 0..30 {
+            let mut other = draft.clone();
+            let (some, bit) = (random.below(256), 1 << random.below(64));
+            match random.below(4) {
+                0 => other.actions[some].off ^= bit,
+                1 => other.actions[some].pre ^= bit,
+                2 => other.goal_off ^= bit,
+                _ => (other.goal, other.goal_off) = (other.goal_off, other.goal),
+            }
+            same_reply(&other.encode(), "a workload with another mask");
+        }
+    }
+}
+
+/// Older files and the same in version 3: the replies are the same.
+#[test]
+fn older_files_in_version_3() {
+    let cases: Vec<Case> = older(22, 3000).collect();
+    let mut accepted = 0;
+    for (index, pair) in cases.chunks(2).enumerate() {
+        let codes = [&pair[0], &pair[1]].map(|case| same_call(case, &format!("pair {index}")));
+        let words = codes.map(said);
+        assert!(
+            unchanged([&pair[0], &pair[1]], words.each_ref().map(|one| &**one)),
+            "pair {index}: {words:?}"
+        );
+        accepted += (codes[0] == 0) as usize;
+    }
+    assert!(accepted >= 500, "{accepted}");
+    let case = Case { call: Call::Check, bytes: sample("sample") };
+    let new = renewed(&case).expect("the sample in version 3");
+    assert_eq!(same_all(&new.bytes, &[(3, 2), (2, 3)], "the sample in version 3"), 0);
+}
+
 /// What the proved checker says in words, for a check, a round or a question alike.
 fn said(code: u64) -> String {
     match code >> 32 {
@@ -580,7 +730,7 @@ fn random_bytes() {
         if length >= 5 {
             file[..4].copy_from_slice(&(length as u32 - 4).to_be_bytes());
             same_reply(&file, "random with a length");
-            for version in [1, 2] {
+            for version in [1, 2, 3] {
                 file[4] = version;
                 same_reply(&file, "random with a length and version");
             }
@@ -619,6 +769,8 @@ fn samples() {
         "found",
         "delivered",
         "delivered_on_refused_11",
+        "cooled",
+        "cooled_at_times_refused_11",
         "regression",
         "listed_actions_refused_9",
         "false_actions_refused_11",
