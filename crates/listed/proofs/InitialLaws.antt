@@ -9,7 +9,7 @@ use lib.Dec.{T, eqb→eq}
 use Rattle.task.specs.declared.Ends.{Ends}
 use Rattle.task.specs.Facts.{allOn}
 use Rattle.task.specs.Inner.{atInit}
-use Rattle.task.proofs.Bits.{bit-none, all-on-of}
+use Rattle.task.proofs.Bits.{all-on-of}
 use Rattle.task.proofs.Submasks.{below-next, init-to}
 use Rattle.listed.specs.Search.{topOf, Passed}
 
@@ -17,9 +17,6 @@ use Rattle.listed.specs.Search.{topOf, Passed}
 
 pub self-within : (u : ℕ) → T (allOn u u)
 self-within u = all-on-of u u (λ f. omega arith)
-
-pub none-within : (u : ℕ) → T (allOn 0 u)
-none-within u = all-on-of 0 u (λ f. omega (arith, bit-none f))
 
 within-le : (d u : ℕ) → T (allOn d u) → d ≤ u
 unfolding allOn

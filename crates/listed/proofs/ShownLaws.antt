@@ -5,18 +5,16 @@ use mathlib.Core.Logic.{_↔_, _⊎_, inl, inr}
 use Prim.Native.Nat.{ℕ, _+_, _-_, _*_, _^_, _≤_, _<_}
 use native.Mathlib.Omega.{arith}
 use native.Mathlib.Decide.{decLt}
-use native.Mathlib.Nat.{pos-of-ne-zero}
 use mathlib.Core.Bool.{Bool, true, false, not, _&&_, _||_}
 use mathlib.Core.List.{List}
 use lib.ListN.{length}
-use lib.Bits.{bitAnd, bitOr}
+use lib.Bits.{bitOr}
 use lib.Dec.{T, eqb, eqb→eq}
 use Rattle.task.specs.declared.Action.{Action}
 use Rattle.task.specs.declared.Ends.{Ends}
 use Rattle.task.specs.Task.{applies, after}
 use Rattle.task.specs.Reach.{member}
 use Rattle.task.proofs.Bits.{no-change}
-use Rattle.task.proofs.Names.{applies-never}
 use Rattle.task.proofs.Tests.{and-left, and-right, and-both, both-ways, or-cases, or-left, or-right, excluded}
 use Rattle.task.proofs.Tests.{holds, is-false, never, same, member-none}
 use Rattle.bytes.specs.Numbers.{numberAt}
@@ -99,10 +97,6 @@ module _ (bytes : List ℕ) (ends : Ends) (a : Action) (left : List ℕ) (m : �
       third-fails (applies a s) (Lefts (after a s)) (is-false (Rights (after a s)) (λ h.
       let n = all-at r (λ j. not (holdsOne bytes ends s (after a s) (leafIn right j))) h 0 l in
       never (member (after a s) (statesAt bytes (p .at) (p .count))) t (rw (k, asked-after f) at n)))
-
--- no state is left open by an action that needs a fact on and off
-pub closed-never : (bytes : List ℕ) (p : Span) (a : Action) (s : ℕ) → (bitAnd (a .pre) (a .off) ≡ 0 → ⊥) → Closed bytes p a s
-closed-never bytes p a s n = inl (is-false (applies a s) (applies-never a s (pos-of-ne-zero n)))
 
 -- the states of the first right leaf are in order, and one that leads to them is not shown
 module _ (bytes : List ℕ) (right : List ℕ) (r : ℕ) (a : Action) (p : Span) where
@@ -234,16 +228,12 @@ module _ (bytes : List ℕ) (ends : Ends) (a : Action) (left : List ℕ) (m : �
         some-of (x .count) _ (v .0) (v .1) (subst (λ (s : ℕ). T (In s)) (v .2) (counters-in w))),
   )
 
--- ---- what was found last
+-- ---- two tests of numbers, neither of which passes
 
--- one was looked for, and this is the same
-pub same-again : (near t last : ℕ) → (eqb near 0 || not (eqb t last)) ≡ false → (near ≡ 0 → ⊥) × (t ≡ last)
-same-again near t last e = (
-  (λ z. subst T e (or-left (eqb near 0) (not (eqb t last)) (same z))),
-  eqb→eq t last (elim (excluded (eqb t last)) [
-    | inl h ↦ h
-    | inr n ↦ absurd (subst T e (or-right (eqb near 0) (not (eqb t last)) n))
-  ]),
+pub neither : (k m n : ℕ) → (eqb k 0 || not (eqb m n)) ≡ false → (k ≡ 0 → ⊥) × (m ≡ n)
+neither k m n e = (
+  (λ z. subst T e (or-left (eqb k 0) (not (eqb m n)) (same z))),
+  eqb→eq m n (elim (excluded (eqb m n)) [ inl h ↦ h | inr o ↦ absurd (subst T e (or-right (eqb k 0) (not (eqb m n)) o)) ]),
 )
 
 -- ---- the states that differ

@@ -171,8 +171,8 @@ fn applies_at_once(a: Action, s: u64) -> bool
 }
 
 // The first of listed states, by size, from number `from` on and before `to`, in which the action applies and does not lead into other
-// listed states. One that needs a fact both on and off applies in none. What it leads to is looked for behind what was found last, and not
-// again where it is the same.
+// listed states; the very first where none are listed, or where the action needs a fact both on and off. What it leads to is looked for
+// behind what was found last, and not again where it is the same.
 fn first_open(
     file: &[u8],
     index: &Index,
@@ -187,11 +187,8 @@ fn first_open(
     ensures { λ r. ⌜ (r ≤ to) × (from ≤ r) × ((k : ℕ) → from ≤ k → k < r → Closed (now (file .entry)) into a (stateIn (now (file .entry)) (now (index .entry)) x k)) ⌝ }
 {
     let many = into.count as usize;
-    if many == 0 {
+    if (many == 0) | (a.pre & a.off != 0) {
         return from;
-    }
-    if a.pre & a.off != 0 {
-        return to;
     }
     let mut near: usize = 0;
     let mut last: u64 = 0;
@@ -261,11 +258,8 @@ fn first_initial(
     ensures { λ r. ⌜ T (allOn r (ends .unknown)) × (r ≤ from) × Passed (topOf ends) (ends .unknown) (Closed (now (file .entry)) into a) from r ⌝ }
 {
     let many = into.count as usize;
-    if many == 0 {
+    if (many == 0) | (a.pre & a.off != 0) {
         return from;
-    }
-    if a.pre & a.off != 0 {
-        return 0;
     }
     let unknown = ends.unknown;
     let top = ends.init | unknown;

@@ -1,18 +1,19 @@
 -- `listed::first_initial` meets its contract. The invariant: each state that was passed is closed.
 -- Assumes nothing.
 use Prim.Native.Nat.{ℕ, _-_, _≤_}
-use mathlib.Core.Path.{sym, _∙_}
+use mathlib.Core.Path.{_≡_, sym, _∙_}
 use mathlib.Core.Logic.{inl, inr}
-use native.Mathlib.Nat.{le-refl}
+use native.Mathlib.Nat.{le-refl, pos-of-ne-zero}
 use native.Mathlib.Omega.{arith}
+use lib.Bits.{bitAnd}
 use lib.Dec.{T, ltb, lt→ltb}
 use borrow.Author.Needs.{needs}
 use Rattle.task.specs.Facts.{allOn}
 use Rattle.task.proofs.Tests.{is-true}
 use Rattle.task.proofs.Submasks.{below-within, below-less}
 use Rattle.listed.specs.Search.{topOf, Passed, Closed}
-use Rattle.listed.proofs.InitialLaws.{none-within, below-top, none-passed, passed-next}
-use Rattle.listed.proofs.ShownLaws.{closed-never}
+use Rattle.listed.proofs.InitialLaws.{below-top, none-passed, passed-next}
+use Rattle.listed.proofs.ShownLaws.{neither}
 use Rattle.listed.proofs.first_initial.Statement.{statement}
 use Rattle.listed.proofs.first_initial.Tie as tie
 
@@ -25,20 +26,22 @@ abbrev μ-loop : tie.MeasureT-loop
 
 -- the start, from the place before the loop
 abbrev start : tie.After-struct-known3 Inv-loop μ-loop → tie.Start Inv-loop μ-loop
-start c = c .before .before .before .before .before .before
+start c = c .before .before .before .before .before
 
 -- a state is closed
 abbrev IsClosed : tie.Start Inv-loop μ-loop → ℕ → Type 0
 IsClosed c = let a = c .args in Closed (a .file .now) (a .into) (a .a)
 
 returns : tie.Need-returns Inv-loop μ-loop
-returns c = let s = c .before .before .before in (s .pre .1, le-refl _, none-passed _ _ (IsClosed s) _)
-
-returns-2 : tie.Need-returns-2 Inv-loop μ-loop
-returns-2 c = (none-within _, search needs, λ d w l m. closed-never _ _ _ _ (c .if2 .taken))
+returns c = let s = c .before .before .before .before in (s .pre .1, le-refl _, none-passed _ _ (IsClosed s) _)
 
 loop-holds : tie.Need-loop-holds Inv-loop μ-loop
 loop-holds c = let s = start c in (s .pre .1, le-refl _, none-passed _ _ (IsClosed s) _)
+
+-- some states are listed, and no fact is needed both on and off
+looked-at : (c : tie.After-struct-known3 Inv-loop μ-loop) → let a = start c .args in
+    (a .into .count ≡ 0 → ⊥) × (bitAnd (a .a .pre) (a .a .off) ≡ 0)
+looked-at c = neither _ _ _ (c .before .if1 .left)
 
 sub-s : tie.Need-sub-s Inv-loop μ-loop
 sub-s c = below-top (start (c .before .before) .args .ends) _ (c .before .loop .inv .0)
@@ -47,16 +50,16 @@ search-requires : tie.Need-search-requires Inv-loop μ-loop
 search-requires c κs =
     let v = c .before .before .before .before .before in
     let p = start v .pre in
-    (p .2 (omega (arith, v .before .before .before .if1 .left)), p .0)
+    (p .2 (pos-of-ne-zero (looked-at v .0)), p .0)
 
-returns-3 : tie.Need-returns-3 Inv-loop μ-loop
-returns-3 c = c .before .before .before .before .before .before .loop .inv
+returns-2 : tie.Need-returns-2 Inv-loop μ-loop
+returns-2 c = c .before .before .before .before .before .before .loop .inv
 
 -- a turn that goes on finds its state closed
-turned : (c : tie.Joined3 Inv-loop μ-loop) → let s = start (c .before .before .before .before) in
+turned : (c : tie.Joined2 Inv-loop μ-loop) → let s = start (c .before .before .before .before) in
     IsClosed s (topOf (s .args .ends) - c .before .before .before .loop .d)
 turned c =
-    elim (c .if3 .came) [
+    elim (c .if2 .came) [
       | inl w ↦
           let k : ℕ = w .2 .result in
           let n : ℕ = start (c .before .before .before .before) .args .into .count in
@@ -77,8 +80,8 @@ loop-again c =
       passed-next _ u (IsClosed s) _ (v .d) (v .inv .0) (v .inv .2) (turned c),
     )
 
-returns-4 : tie.Need-returns-4 Inv-loop μ-loop
-returns-4 c = c .before .loop .inv
+returns-3 : tie.Need-returns-3 Inv-loop μ-loop
+returns-3 c = c .before .loop .inv
 
 pub first-initial-spec : {M : Type 1} → statement M
 first-initial-spec =
@@ -88,15 +91,14 @@ first-initial-spec =
     μ-loop
     (λ c. search needs)
     returns
-    returns-2
     loop-holds
     sub-s
-    (λ c κs. c .before .before .before .if2 .left)
+    (λ c κs. looked-at (c .before .before) .1)
     (λ c κs. search needs)
     search-requires
-    returns-3
+    returns-2
     (λ c. search needs)
     (λ c. search needs)
     loop-less
     loop-again
-    returns-4)
+    returns-3)

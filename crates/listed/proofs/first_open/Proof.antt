@@ -14,7 +14,7 @@ use Rattle.certificate.specs.Rows.{stateIn}
 use Rattle.leaves.specs.Holds.{statesAt}
 use Rattle.listed.specs.Search.{Closed}
 use Rattle.membership.proofs.SearchLaws.{from-more}
-use Rattle.listed.proofs.ShownLaws.{closed-never, same-again}
+use Rattle.listed.proofs.ShownLaws.{neither}
 use Rattle.listed.proofs.first_open.Statement.{statement}
 use Rattle.listed.proofs.first_open.Tie as tie
 
@@ -27,16 +27,11 @@ abbrev μ-loop : tie.MeasureT-loop
 μ-loop file index x from to into rows a many near₀ last₀ i₀ near last i = to - i
 
 -- the start, from the place before the loop
-abbrev start : tie.Else2 Inv-loop μ-loop → tie.Start Inv-loop μ-loop
-start c = c .before .before .before .before .before
+abbrev start : tie.Else1 Inv-loop μ-loop → tie.Start Inv-loop μ-loop
+start c = c .before .before .before .before
 
 returns : tie.Need-returns Inv-loop μ-loop
-returns c = let h = c .before .before .before .pre .3 in (search needs, search needs, λ k l h. absurd (omega arith))
-
-returns-2 : tie.Need-returns-2 Inv-loop μ-loop
-returns-2 c =
-    let h = c .before .before .before .before .before .pre .3 in
-    (search needs, search needs, λ k l m. closed-never _ _ _ _ (c .if2 .taken))
+returns c = let h = c .before .before .before .before .pre .3 in (search needs, search needs, λ k l h. absurd (omega arith))
 
 loop-holds : tie.Need-loop-holds Inv-loop μ-loop
 loop-holds c = let h = start c .pre .3 in (search needs, search needs, (λ k l h. absurd (omega arith)), inl refl)
@@ -44,32 +39,35 @@ loop-holds c = let h = start c .pre .3 in (search needs, search needs, (λ k l h
 state-in-requires : tie.Need-state-in-requires Inv-loop μ-loop
 state-in-requires c κs = let p = start (c .before .before) .pre in (p .0, p .2, search needs)
 
+applies-at-once-requires : tie.Need-applies-at-once-requires Inv-loop μ-loop
+applies-at-once-requires c κs = let e = c .before .before .before in neither (start e .args .into .count) _ _ (e .if1 .left) .1
+
 find-requires : tie.Need-find-requires Inv-loop μ-loop
 find-requires c κs = let p = start (c .before .before .before .before .before .before .before) .pre in (p .1, p .2)
 
-returns-3 : tie.Need-returns-3 Inv-loop μ-loop
-returns-3 c = let v = c .before .before .before .before .before .before .before .before .loop .inv in (v .0, v .1, v .2)
+returns-2 : tie.Need-returns-2 Inv-loop μ-loop
+returns-2 c = let v = c .before .before .before .before .before .before .before .before .loop .inv in (v .0, v .1, v .2)
 
 -- what a turn finds of its state, and of the state that was found last
-abbrev Turned : tie.Joined3 Inv-loop μ-loop → Type 0
+abbrev Turned : tie.Joined2 Inv-loop μ-loop → Type 0
 Turned c =
     let a = start (c .before .before .before .before .before) .args in
     Closed (a .file .now) (a .into) (a .a) (c .before .before .state-in .result)
-    × ((c .if3 .near ≡ 0) ⊎ (member (c .if3 .last) (statesAt (a .file .now) (a .into .at) (a .into .count)) ≡ true))
+    × ((c .if2 .near ≡ 0) ⊎ (member (c .if2 .last) (statesAt (a .file .now) (a .into .at) (a .into .count)) ≡ true))
 
-turned : (c : tie.Joined3 Inv-loop μ-loop) → Turned c
+turned : (c : tie.Joined2 Inv-loop μ-loop) → Turned c
 turned c =
     let v = c .before .before .before .before .loop in
     let a = start (c .before .before .before .before .before) .args in
     let In : ℕ → Type 0 = λ t. member t (statesAt (a .file .now) (a .into .at) (a .into .count)) ≡ true in
-    elim (c .if3 .came) [
+    elim (c .if2 .came) [
       | inl w ↦
           let l : w .3 .result < a .into .count = omega (arith, w .4 .left) in
           let h : In (w .1 .result) =
           sym (w .3 .ensures) ∙ is-true (ltb (w .3 .result) (a .into .count)) (lt→ltb (w .3 .result) (a .into .count) l) in
           (inr (rw (w .1 .ensures) at h), inr (subst In (sym (w .6)) h))
       | inr (inl w) ↦
-          let z = same-again (v .near) (w .1 .result) (v .last) (w .2 .left) in
+          let z = neither (v .near) (w .1 .result) (v .last) (w .2 .left) in
           let h : In (v .last) = elim (v .inv .3) [ inl e ↦ absurd (z .0 e) | inr m ↦ m ] in
           (inr (rw (w .1 .ensures) at (subst In (sym (z .1)) h)), inr (subst In (sym (w .4)) h))
       | inr (inr w) ↦ (
@@ -89,8 +87,8 @@ loop-again c =
       turned c .1,
     )
 
-returns-4 : tie.Need-returns-4 Inv-loop μ-loop
-returns-4 c = let v = c .before .loop .inv in (v .0, v .1, v .2)
+returns-3 : tie.Need-returns-3 Inv-loop μ-loop
+returns-3 c = let v = c .before .loop .inv in (v .0, v .1, v .2)
 
 pub first-open-spec : {M : Type 1} → statement M
 first-open-spec =
@@ -100,15 +98,14 @@ first-open-spec =
     μ-loop
     (λ c. search needs)
     returns
-    returns-2
     loop-holds
     state-in-requires
-    (λ c κs. c .before .before .before .if2 .left)
+    applies-at-once-requires
     (λ c κs. search needs)
     find-requires
-    returns-3
+    returns-2
     (λ c. search needs)
     (λ c. search needs)
     (λ c. search needs)
     loop-again
-    returns-4)
+    returns-3)
