@@ -1,7 +1,7 @@
 -- `layout::task` meets its contract: each test passes what is left to read on to the next one.
 -- Assumes nothing.
 use mathlib.Core.Path.{_≡_, ap, ap₂, _∙_}
-use Prim.Native.Nat.{ℕ, _+_, _*_, _/_, _^_, _≤_}
+use Prim.Native.Nat.{ℕ, _+_, _*_, _/_, _≤_}
 use native.Mathlib.Nat.{mul-le-mul-right}
 use native.Mathlib.Omega.{arith}
 use mathlib.Core.List.{List}
@@ -92,7 +92,7 @@ returns-4 c = let k = c .before .before .before in count-refused _ (aimed (k .be
 -- an action is so many masks
 masks-are : (z : tie.After-action-size)
     → let h = z .before .before .before .before .before .before .before .before .before .before .before .before in
-    z .action-size .result / 2 ^ 3 * h .task-head .result .actions ≡ actionSize (version h) / 8 * h .task-head .result .actions
+    z .action-size .result / 8 * h .task-head .result .actions ≡ actionSize (version h) / 8 * h .task-head .result .actions
 masks-are z =
     let h = z .before .before .before .before .before .before .before .before .before .before .before .before in
     ap (λ (k : ℕ). k / 8 * h .task-head .result .actions) (z .action-size .ensures)
