@@ -171,8 +171,7 @@ fn applies_at_once(a: Action, s: u64) -> bool
 }
 
 // The first of listed states, by size, from number `from` on and before `to`, in which the action applies and does not lead into other
-// listed states; the very first where none are listed, or where the action needs a fact both on and off. What it leads to is looked for
-// behind what was found last, and not again where it is the same.
+// listed states. What it leads to is looked for behind what was found last, and not again where it is the same.
 fn first_open(
     file: &[u8],
     index: &Index,
@@ -184,10 +183,11 @@ fn first_open(
     a: Action,
 ) -> usize
     requires { ⌜ InOrder (now file) (now index) x × InOrder (now file) (now index) into × (rows ≡ byRows (now index)) × (from ≤ to) × (to ≤ x .count) ⌝ }
+    requires { ⌜ bitAnd (a .pre) (a .off) ≡ 0 ⌝ }
     ensures { λ r. ⌜ (r ≤ to) × (from ≤ r) × ((k : ℕ) → from ≤ k → k < r → Closed (now (file .entry)) into a (stateIn (now (file .entry)) (now (index .entry)) x k)) ⌝ }
 {
     let many = into.count as usize;
-    if (many == 0) | (a.pre & a.off != 0) {
+    if many == 0 {
         return from;
     }
     let mut near: usize = 0;
@@ -225,7 +225,7 @@ fn one_shows(
     x: Span,
 ) -> bool
     requires { ⌜ Readable (now file) (now index) (now left) m × Readable (now file) (now index) (now right) r ⌝ }
-    requires { ⌜ InOrder (now file) (now index) x ⌝ }
+    requires { ⌜ InOrder (now file) (now index) x × (bitAnd (a .pre) (a .off) ≡ 0) ⌝ }
     ensures { λ b. ⌜ b ≡ someBelow (x .count) (λ i. showsIn (now (file .entry)) ends a (now (left .entry)) m (now (right .entry)) r anchor (stateIn (now (file .entry)) (now (index .entry)) x i)) ⌝ }
 {
     let rows = by_rows(index);
@@ -255,10 +255,11 @@ fn first_initial(
     a: Action,
 ) -> u64
     requires { ⌜ (rows ≡ byRows (now index)) × T (allOn from (ends .unknown)) × (0 < into .count → InOrder (now file) (now index) into) ⌝ }
+    requires { ⌜ bitAnd (a .pre) (a .off) ≡ 0 ⌝ }
     ensures { λ r. ⌜ T (allOn r (ends .unknown)) × (r ≤ from) × Passed (topOf ends) (ends .unknown) (Closed (now (file .entry)) into a) from r ⌝ }
 {
     let many = into.count as usize;
-    if (many == 0) | (a.pre & a.off != 0) {
+    if many == 0 {
         return from;
     }
     let unknown = ends.unknown;
@@ -292,6 +293,7 @@ fn initial_shows(
     a: Action,
 ) -> bool
     requires { ⌜ Readable (now file) (now index) (now left) m × Readable (now file) (now index) (now right) r ⌝ }
+    requires { ⌜ bitAnd (a .pre) (a .off) ≡ 0 ⌝ }
     ensures { λ b. ⌜ T b ↔ OneInitial ends (showsIn (now (file .entry)) ends a (now (left .entry)) m (now (right .entry)) r anchor) ⌝ }
 {
     let rows = by_rows(index);
@@ -311,7 +313,8 @@ fn initial_shows(
     }
 }
 
-// Whether an action in a state of the anchor, a left leaf that lists its states, makes the statement untrue.
+// Whether an action in a state of the anchor, a left leaf that lists its states, makes the statement untrue. One that needs a fact both on
+// and off applies in none, and makes none so.
 pub fn shown(
     file: &[u8],
     index: &Index,
@@ -327,6 +330,9 @@ pub fn shown(
     requires { ⌜ Each (λ x. Orderly (now file) (now index) (x .set)) (leavesIn (now left) m) × Each (λ x. Orderly (now file) (now index) (x .set)) (leavesIn (now right) r) ⌝ }
     ensures { λ b. ⌜ T b ↔ Countered (now (file .entry)) ends a (leavesIn (now (left .entry)) m) (leavesIn (now (right .entry)) r) ⌝ }
 {
+    if a.pre & a.off != 0 {
+        return false;
+    }
     let x = leaf_at(left, anchor);
     let set = x.set;
     match set {

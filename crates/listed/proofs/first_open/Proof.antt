@@ -26,24 +26,17 @@ Inv-loop file index x from to into rows a many near₀ last₀ i₀ near last i 
 abbrev μ-loop : tie.MeasureT-loop
 μ-loop file index x from to into rows a many near₀ last₀ i₀ near last i = to - i
 
--- the start, from the place before the loop
-abbrev start : tie.Else1 Inv-loop μ-loop → tie.Start Inv-loop μ-loop
-start c = c .before .before .before .before
-
 returns : tie.Need-returns Inv-loop μ-loop
-returns c = let h = c .before .before .before .before .pre .3 in (search needs, search needs, λ k l h. absurd (omega arith))
+returns c = let h = c .before .before .before .pre .0 .3 in (search needs, search needs, λ k l h. absurd (omega arith))
 
 loop-holds : tie.Need-loop-holds Inv-loop μ-loop
-loop-holds c = let h = start c .pre .3 in (search needs, search needs, (λ k l h. absurd (omega arith)), inl refl)
+loop-holds c = let h = c .before .before .before .pre .0 .3 in (search needs, search needs, (λ k l h. absurd (omega arith)), inl refl)
 
 state-in-requires : tie.Need-state-in-requires Inv-loop μ-loop
-state-in-requires c κs = let p = start (c .before .before) .pre in (p .0, p .2, search needs)
-
-applies-at-once-requires : tie.Need-applies-at-once-requires Inv-loop μ-loop
-applies-at-once-requires c κs = let e = c .before .before .before in neither (start e .args .into .count) _ _ (e .if1 .left) .1
+state-in-requires c κs = let p = c .before .before .before .before .before .pre .0 in (p .0, p .2, search needs)
 
 find-requires : tie.Need-find-requires Inv-loop μ-loop
-find-requires c κs = let p = start (c .before .before .before .before .before .before .before) .pre in (p .1, p .2)
+find-requires c κs = let p = c .before .before .before .before .before .before .before .before .before .before .pre .0 in (p .1, p .2)
 
 returns-2 : tie.Need-returns-2 Inv-loop μ-loop
 returns-2 c = let v = c .before .before .before .before .before .before .before .before .loop .inv in (v .0, v .1, v .2)
@@ -51,14 +44,14 @@ returns-2 c = let v = c .before .before .before .before .before .before .before 
 -- what a turn finds of its state, and of the state that was found last
 abbrev Turned : tie.Joined2 Inv-loop μ-loop → Type 0
 Turned c =
-    let a = start (c .before .before .before .before .before) .args in
+    let a = c .before .before .before .before .before .before .before .before .args in
     Closed (a .file .now) (a .into) (a .a) (c .before .before .state-in .result)
     × ((c .if2 .near ≡ 0) ⊎ (member (c .if2 .last) (statesAt (a .file .now) (a .into .at) (a .into .count)) ≡ true))
 
 turned : (c : tie.Joined2 Inv-loop μ-loop) → Turned c
 turned c =
     let v = c .before .before .before .before .loop in
-    let a = start (c .before .before .before .before .before) .args in
+    let a = c .before .before .before .before .before .before .before .before .args in
     let In : ℕ → Type 0 = λ t. member t (statesAt (a .file .now) (a .into .at) (a .into .count)) ≡ true in
     elim (c .if2 .came) [
       | inl w ↦
@@ -79,7 +72,7 @@ turned c =
 loop-again : tie.Need-loop-again Inv-loop μ-loop
 loop-again c =
     let v = c .before .before .before .before in
-    let a = start (v .before) .args in (
+    let a = v .before .before .before .before .args in (
       search needs,
       search needs,
       from-more (λ k. Closed (a .file .now) (a .into) (a .a) (stateIn (a .file .now) (a .index .now) (a .x) k)) (a .from) (v .loop .i)
@@ -100,7 +93,7 @@ first-open-spec =
     returns
     loop-holds
     state-in-requires
-    applies-at-once-requires
+    (λ c κs. c .before .before .before .before .before .before .pre .1)
     (λ c κs. search needs)
     find-requires
     returns-2

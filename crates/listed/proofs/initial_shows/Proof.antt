@@ -29,7 +29,7 @@ Silent c s =
     showsIn (a .file .now) (a .ends) (a .a) (a .left .now) (a .m) (a .right .now) (a .r) (a .anchor) s ≡ false
 
 states-after-requires : tie.Need-states-after-requires Inv-loop μ-loop
-states-after-requires c κs = c .before .before .before .before .pre .1 .0
+states-after-requires c κs = c .before .before .before .before .pre .0 .1 .0
 
 loop-holds : tie.Need-loop-holds Inv-loop μ-loop
 loop-holds c =
@@ -40,13 +40,13 @@ first-initial-requires : tie.Need-first-initial-requires Inv-loop μ-loop
 first-initial-requires c κs =
     let v = c .before .before in
     let s = v .before .before .before .before .before in
-    (v .before .by-rows .ensures, c .loop .inv .1, some-ordered _ _ _ (s .args .a) _ _ (s .pre .1) (v .states-after .ensures))
+    ((v .before .by-rows .ensures, c .loop .inv .1, some-ordered _ _ _ (s .args .a) _ _ (s .pre .0 .1) (v .states-after .ensures)), s .pre .1)
 
 sub-shows-in : tie.Need-sub-shows-in Inv-loop μ-loop
 sub-shows-in c = below-top (c .before .before .before .before .before .before .before .before .args .ends) _ (c .first-initial .ensures .0)
 
 shows-in-requires : tie.Need-shows-in-requires Inv-loop μ-loop
-shows-in-requires c κs = c .before .before .before .before .before .before .before .before .pre
+shows-in-requires c κs = c .before .before .before .before .before .before .before .before .pre .0
 
 -- no state that was passed up to the next open one shows it, for a closed one does not
 passed : (c : tie.After-first-initial Inv-loop μ-loop) → let s = c .before .before .before .before .before .before .before .before in

@@ -39,7 +39,7 @@ into-ordered : (c : tie.After-different Inv-loop μ-loop) → let a = c .before 
     InOrder (a .file .now) (a .index .now) (c .before .states-after .result)
 into-ordered c =
     let s = c .before .before .before .before .before .before in
-    states-ordered _ _ _ (s .args .a) _ _ (s .pre .1 .short) (s .pre .0 .1) (c .before .states-after .ensures)
+    states-ordered _ _ _ (s .args .a) _ _ (s .pre .1 .0 .short) (s .pre .0 .1) (c .before .states-after .ensures)
 
 -- the test of a turn
 tested : (c : tie.After-shows-in Inv-loop μ-loop) → let v = c .before .before .before in
@@ -51,13 +51,13 @@ states-after-requires c κs = c .before .before .before .before .pre .0 .1 .0
 
 different-requires : tie.Need-different-requires Inv-loop μ-loop
 different-requires c κs =
-    let o = c .before .before .before .before .before .pre .1 in
+    let o = c .before .before .before .before .before .pre .1 .0 in
     (omega (arith, o .inside, o .short), c .before .by-rows .ensures)
 
 first-open-requires : tie.Need-first-open-requires Inv-loop μ-loop
 first-open-requires c κs =
     let s = c .before .before .before .before .before .before in
-    (s .pre .1, into-ordered c, c .before .before .by-rows .ensures, search needs, c .different .ensures .0)
+    ((s .pre .1 .0, into-ordered c, c .before .before .by-rows .ensures, search needs, c .different .ensures .0), s .pre .1 .1)
 
 loop-holds : tie.Need-loop-holds Inv-loop μ-loop
 loop-holds c =
@@ -67,7 +67,7 @@ state-in-requires : tie.Need-state-in-requires Inv-loop μ-loop
 state-in-requires c κs =
     let d = c .before .before .before in
     let l = d .different .ensures .0 in
-    (d .before .before .before .before .before .before .pre .1, d .before .before .by-rows .ensures, search needs)
+    (d .before .before .before .before .before .before .pre .1 .0, d .before .before .by-rows .ensures, search needs)
 
 shows-in-requires : tie.Need-shows-in-requires Inv-loop μ-loop
 shows-in-requires c κs = c .before .before .before .before .before .before .before .before .before .before .pre .0
@@ -82,7 +82,7 @@ first-open-requires-2 : tie.Need-first-open-requires-2 Inv-loop μ-loop
 first-open-requires-2 c κs =
     let d = c .before .before .before .before .before .before in
     let s = d .before .before .before .before .before .before in
-    (s .pre .1, into-ordered d, d .before .before .by-rows .ensures, search needs, d .different .ensures .0)
+    ((s .pre .1 .0, into-ordered d, d .before .before .by-rows .ensures, search needs, d .different .ensures .0), s .pre .1 .1)
 
 loop-again : tie.Need-loop-again Inv-loop μ-loop
 loop-again c =
@@ -97,7 +97,7 @@ returns-2 c =
     let d = c .before .before .before in
     let a = d .before .before .before .before .before .before .args in
     some-done _ (c .before .loop .inv .1) (search needs) (search needs)
-    ∙ some-different (d .before .before .before .before .before .before .pre .1) (d .different .ensures)
+    ∙ some-different (d .before .before .before .before .before .before .pre .1 .0) (d .different .ensures)
     (showsIn (a .file .now) (a .ends) (a .a) (a .left .now) (a .m) (a .right .now) (a .r) (a .anchor))
 
 pub one-shows-spec : {M : Type 1} → statement M
