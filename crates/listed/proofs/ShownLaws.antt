@@ -228,12 +228,16 @@ module _ (bytes : List ℕ) (ends : Ends) (a : Action) (left : List ℕ) (m : �
         some-of (x .count) _ (v .0) (v .1) (subst (λ (s : ℕ). T (In s)) (v .2) (counters-in w))),
   )
 
--- ---- two tests of numbers, neither of which passes
+-- ---- what was found last
 
-pub neither : (k m n : ℕ) → (eqb k 0 || not (eqb m n)) ≡ false → (k ≡ 0 → ⊥) × (m ≡ n)
-neither k m n e = (
-  (λ z. subst T e (or-left (eqb k 0) (not (eqb m n)) (same z))),
-  eqb→eq m n (elim (excluded (eqb m n)) [ inl h ↦ h | inr o ↦ absurd (subst T e (or-right (eqb k 0) (not (eqb m n)) o)) ]),
+-- one was looked for, and this is the same
+pub same-again : (near t last : ℕ) → (eqb near 0 || not (eqb t last)) ≡ false → (near ≡ 0 → ⊥) × (t ≡ last)
+same-again near t last e = (
+  (λ z. subst T e (or-left (eqb near 0) (not (eqb t last)) (same z))),
+  eqb→eq t last (elim (excluded (eqb t last)) [
+    | inl h ↦ h
+    | inr n ↦ absurd (subst T e (or-right (eqb near 0) (not (eqb t last)) n))
+  ]),
 )
 
 -- ---- the states that differ

@@ -14,7 +14,7 @@ use Rattle.certificate.specs.Rows.{stateIn}
 use Rattle.leaves.specs.Holds.{statesAt}
 use Rattle.listed.specs.Search.{Closed}
 use Rattle.membership.proofs.SearchLaws.{from-more}
-use Rattle.listed.proofs.ShownLaws.{neither}
+use Rattle.listed.proofs.ShownLaws.{same-again}
 use Rattle.listed.proofs.first_open.Statement.{statement}
 use Rattle.listed.proofs.first_open.Tie as tie
 
@@ -60,7 +60,7 @@ turned c =
           sym (w .3 .ensures) ∙ is-true (ltb (w .3 .result) (a .into .count)) (lt→ltb (w .3 .result) (a .into .count) l) in
           (inr (rw (w .1 .ensures) at h), inr (subst In (sym (w .6)) h))
       | inr (inl w) ↦
-          let z = neither (v .near) (w .1 .result) (v .last) (w .2 .left) in
+          let z = same-again (v .near) (w .1 .result) (v .last) (w .2 .left) in
           let h : In (v .last) = elim (v .inv .3) [ inl e ↦ absurd (z .0 e) | inr m ↦ m ] in
           (inr (rw (w .1 .ensures) at (subst In (sym (z .1)) h)), inr (subst In (sym (w .4)) h))
       | inr (inr w) ↦ (
