@@ -104,6 +104,15 @@ fn explain_trouble(stop: Stop) -> ExitCode {
 
 fn run(words: &[&str]) -> Result<(), Stop> {
     let mut out = BufWriter::new(io::stdout().lock());
+    if let [word, first, second] = words {
+        if let Some(cases) = seeded(word) {
+            write_lines(&mut out, cases(number(first)?, number(second)?))?;
+            return Ok(out.flush()?);
+        }
+        if let Some((fit, differ)) = comparing(word) {
+            return compare_pairs(&read(first)?, &read_text(second)?, fit, differ);
+        }
+    }
     match words {
         ["-h" | "--help"] => writeln!(out, "{USAGE}")?,
         ["check", rest @ ..] => writeln!(out, "{}", checked(rest)?)?,
@@ -115,16 +124,6 @@ fn run(words: &[&str]) -> Result<(), Stop> {
             let (entry, state) = (number(entry)?, number(state)?);
             writeln!(out, "{}", ask(&read(file)?, entry, state))?;
         }
-        ["gen", seed, count] => write_lines(&mut out, cases(number(seed)?, number(count)?))?,
-        ["numbered", seed, count] => write_lines(&mut out, numbered(number(seed)?, number(count)?))?,
-        ["rounds", seed, count] => write_lines(&mut out, rounds(number(seed)?, number(count)?))?,
-        ["small", seed, count] => write_lines(&mut out, small(number(seed)?, number(count)?))?,
-        ["listed", seed, count] => write_lines(&mut out, listed(number(seed)?, number(count)?))?,
-        ["unknown", seed, count] => write_lines(&mut out, unknown(number(seed)?, number(count)?))?,
-        ["off", seed, count] => write_lines(&mut out, off(number(seed)?, number(count)?))?,
-        ["older", seed, count] => write_lines(&mut out, older(number(seed)?, number(count)?))?,
-        ["twins", seed, count] => write_lines(&mut out, twins(number(seed)?, number(count)?))?,
-        ["relisted", seed, count] => write_lines(&mut out, relisted(number(seed)?, number(count)?))?,
         ["damaged", file, seed, count] => {
             write_lines(&mut out, damaged(&read(file)?, number(seed)?, number(count)?))?;
         }
@@ -137,18 +136,6 @@ fn run(words: &[&str]) -> Result<(), Stop> {
             for case in cases_of(io::stdin().lock()) {
                 out.write_all(&case?.record())?;
             }
-        }
-        ["alike", cases, replies] => {
-            let differ = "their files differ in the order of listed states alone";
-            compare_pairs(&read(cases)?, &read_text(replies)?, alike, differ)?;
-        }
-        ["twinned", cases, replies] => {
-            let differ = "the second file is to be the first in version 2, with no unknown fact";
-            compare_pairs(&read(cases)?, &read_text(replies)?, twinned, differ)?;
-        }
-        ["unchanged", cases, replies] => {
-            let differ = "the second file is to be the first in version 3, with no fact needed off";
-            compare_pairs(&read(cases)?, &read_text(replies)?, unchanged, differ)?;
         }
         ["assemble", file] => {
             out.write_all(&assemble::assemble(&read_text(file)?).map_err(Stop::Message)?)?;
@@ -176,6 +163,40 @@ fn run(words: &[&str]) -> Result<(), Stop> {
     }
     out.flush()?;
     Ok(())
+}
+
+type Cases = Box<dyn Iterator<Item = Case>>;
+
+/// The seeded cases that a command's word stands for.
+fn seeded(word: &str) -> Option<fn(u64, u64) -> Cases> {
+    Some(match word {
+        "gen" => |seed, count| Box::new(cases(seed, count)),
+        "numbered" => |seed, count| Box::new(numbered(seed, count)),
+        "rounds" => |seed, count| Box::new(rounds(seed, count)),
+        "small" => |seed, count| Box::new(small(seed, count)),
+        "listed" => |seed, count| Box::new(listed(seed, count)),
+        "unknown" => |seed, count| Box::new(unknown(seed, count)),
+        "off" => |seed, count| Box::new(off(seed, count)),
+        "relisted" => |seed, count| Box::new(relisted(seed, count)),
+        "twins" => |seed, count| Box::new(twins(seed, count)),
+        "older" => |seed, count| Box::new(older(seed, count)),
+        _ => return None,
+    })
+}
+
+/// Whether two replies to a pair of cases fit each other.
+type Fit = fn([&Case; 2], [&str; 2]) -> bool;
+
+/// How a command's word compares replies to pairs, and what a pair is to be.
+fn comparing(word: &str) -> Option<(Fit, &'static str)> {
+    Some(match word {
+        "alike" => (alike, "their files differ in the order of listed states alone"),
+        "twinned" => (twinned, "the second file is to be the first in version 2, with no unknown fact"),
+        "unchanged" => {
+            (unchanged, "the second file is to be the first in version 3, with no fact needed off")
+        }
+        _ => return None,
+    })
 }
 
 /// The cases in their line form.
@@ -299,12 +320,7 @@ fn cases_of(lines: impl BufRead) -> impl Iterator<Item = Result<Case, Stop>> {
 }
 
 /// Each two cases are a pair that `relisted`, `twins` or `older` wrote; the first one whose replies do not fit is told.
-fn compare_pairs(
-    cases: &[u8],
-    replies: &str,
-    fit: fn([&Case; 2], [&str; 2]) -> bool,
-    differ: &str,
-) -> Result<(), Stop> {
+fn compare_pairs(cases: &[u8], replies: &str, fit: Fit, differ: &str) -> Result<(), Stop> {
     let cases = cases_of(cases).collect::<Result<Vec<Case>, Stop>>()?;
     let replies: Vec<&str> = replies.lines().collect();
     if cases.len() != replies.len() || cases.len() % 2 != 0 {

@@ -78,6 +78,22 @@ fn the_sample() {
     assert_eq!(printed(&["draw", "-", &sample("sample.txt")], &sample_bytes()), format!("{TABLE}{STEPS}"));
 }
 
+/// Both captions of a file whose forbidden states have a fact off say so; an action that needs a fact off is drawn where that is off.
+#[test]
+fn facts_needed_off() {
+    let drawn = printed(&["draw", &sample("cooled.cert")], b"");
+    for said in [
+        "Forbidden is a state with {charging} on and {fan_on} off.",
+        "forbidden states, those with {charging} on and {fan_on} off",
+    ] {
+        assert!(drawn.contains(said), "{drawn}");
+    }
+    let table = read(&printed(&["draw", &sample("cooled.cert"), "table"], b""));
+    let stopping = table.edges.iter().filter(|(_, _, label, _)| label.contains("stop_fan"));
+    let from: Vec<&str> = stopping.map(|(from, ..)| from.as_str()).collect();
+    assert_eq!(from, ["s0", "s2", "s4", "s6"]);
+}
+
 #[test]
 fn facts_and_actions_without_names() {
     let graph = read(&draw(&sample_bytes(), &Names::default(), Graph::Task).expect("a graph"));

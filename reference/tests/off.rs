@@ -538,57 +538,68 @@ fn the_text_form() {
     }
 }
 
-/// What explanations say of facts that are needed off.
-#[test]
-fn explanations() {
+/// An explanation has all of these texts; facts 0 and 1 and action 0 go by names.
+fn explained(d: &Draft, lines: &[&str]) {
     let names = Names::parse("fact 0 on_load\nfact 1 on_charge\naction 0 close\n").expect("names");
-    let has = |d: &Draft, lines: &[&str]| {
-        let text = explain(&d.encode(), &names);
-        lines.iter().for_each(|line| assert!(text.contains(line), "{line}\n{text}"));
-    };
-    let goal = |goal, goal_off| Draft { goal, ..third(goal_off, [0, 0]) };
-    has(&goal(3, 0), &["to a goal state, one with {on_load on_charge} on.\n"]);
-    let both = "to a goal state, one with {on_load on_charge} on and {on_load} off, which no state has.\n";
-    has(&goal(3, 1), &[both]);
-    let mut d = Draft { facts: 3, ..goal(3, 4) };
-    has(&d, &["to a goal state, one with {on_load on_charge} on and {2} off.\n"]);
+    let text = explain(&d.encode(), &names);
+    lines.iter().for_each(|line| assert!(text.contains(line), "{line}\n{text}"));
+}
+
+/// What explanations of accepted files say of the goal's facts off, and of actions that never apply.
+#[test]
+fn explanations_of_accepted_files() {
+    let goal = |goal, goal_off| Draft { goal, facts: 3, ..third(goal_off, [0, 0]) };
+    explained(&goal(3, 0), &["to a goal state, one with {on_load on_charge} on.\n"]);
+    explained(&goal(3, 4), &["to a goal state, one with {on_load on_charge} on and {2} off.\n"]);
+    let none = "to a goal state, one with {on_load on_charge} on and {on_load} off, which no state has.\n";
+    explained(&goal(3, 1), &[none]);
+    let mut d = goal(3, 4);
     d.actions[0] = Action { pre: 4, off: 4, ..d.actions[0] };
-    has(&d, &["The task has 3 facts and 2 actions.\n1 action never applies, needing a fact both on and off: action 0 close.\n"]);
+    let never = "The task has 3 facts and 2 actions.\n1 action never applies, needing a fact both on and off: action 0 close.\n";
+    explained(&d, &[never]);
     d.actions[1] = Action { pre: 2, off: 2, ..d.actions[1] };
-    has(&d, &["\n2 actions never apply, needing a fact both on and off: action 0 close, action 1.\n"]);
+    explained(&d, &["\n2 actions never apply, needing a fact both on and off: action 0 close, action 1.\n"]);
     d.actions = vec![d.actions[0]; 9];
-    has(
+    explained(
         &d,
         &[
             "\n9 actions never apply, needing a fact both on and off: action 0 close, action 1, ",
             "action 7, ....\n",
         ],
     );
+}
+
+/// What explanations say of a counterexample: by which action, and which of the goal's masks a state does not meet.
+#[test]
+fn explanations_of_counterexamples() {
     let d = Draft { goal: 0, ..third(2, [0, 0]) };
-    has(&d, &["\n  state 0 {}\n    in set 3 explicit {} {on_load} {on_charge}\n    in set 2 goal\n"]);
-    // A counterexample by an action, and the goal's masks that a state does not meet.
+    explained(&d, &["\n  state 0 {}\n    in set 3 explicit {} {on_load} {on_charge}\n    in set 2 goal\n"]);
     let mut d = third(0, [2, 0]);
     d.state_sets[3] = DraftSet::Explicit(vec![0, 2]);
-    has(&d, &[
-        "\n  by action 0 close pre {} add {on_load} del {on_charge} off {on_charge}\n    in actions 0 all; it applies, since {on_charge} is off before it\n",
-    ]);
+    let by = "\n  by action 0 close pre {} add {on_load} del {on_charge} off {on_charge}\n";
+    explained(&d, &[by, "\n    in actions 0 all; it applies, since {on_charge} is off before it\n"]);
     let mut d = Draft { goal: 2, ..third(1, [0, 0]) };
     d.steps[0] = step(1, 1, &[3, 2], &[]);
-    has(&d, &["not in set 2 goal, which wants {on_charge} on as well\n"]);
-    d.state_sets[3] = DraftSet::Explicit(vec![1]);
-    has(&d, &["not in set 2 goal, which wants {on_charge} on and {on_load} off as well\n"]);
-    d.state_sets[3] = DraftSet::Explicit(vec![3]);
-    has(&d, &["not in set 2 goal, which wants {on_load} off as well\n"]);
-    // Faults, and the text before them.
-    has(&third(4, [0, 0]), &[
-        "refused 5 30\n",
-        "\nunknown {}\ngoal {on_load on_charge}\n\nAt byte 30, 8 bytes: the mask of facts that are off in a goal state.\n",
-    ]);
-    has(&third(1, [4, 0]), &[
-        "refused 5 64\n",
-        "\ngoal {on_load on_charge} off {on_load}\n# action 0 close pre {} add {on_load} del {on_charge} ...\n",
-        "\nAt byte 64, 8 bytes: action 0 close, its off mask of facts that it needs off.\nIt holds 0x4: facts {2}, ",
-    ]);
+    for (states, wanted) in [
+        (vec![0, 1, 2], "{on_charge} on"),
+        (vec![1], "{on_charge} on and {on_load} off"),
+        (vec![3], "{on_load} off"),
+    ] {
+        d.state_sets[3] = DraftSet::Explicit(states);
+        explained(&d, &[&format!("not in set 2 goal, which wants {wanted} as well\n")]);
+    }
+}
+
+/// What explanations say of faults of the new masks, and the text before them.
+#[test]
+fn explanations_of_faults() {
+    let field = "At byte 30, 8 bytes: the mask of facts that are off in a goal state.\n";
+    let before = "\nunknown {}\ngoal {on_load on_charge}\n\n";
+    explained(&third(4, [0, 0]), &["refused 5 30\n", before, field]);
+    let field = "\nAt byte 64, 8 bytes: action 0 close, its off mask of facts that it needs off.\n";
+    let before = "\ngoal {on_load on_charge} off {on_load}\n";
+    let begun = "\n# action 0 close pre {} add {on_load} del {on_charge} ...\n";
+    explained(&third(1, [4, 0]), &["refused 5 64\n", before, begun, field, "It holds 0x4: facts {2}, "]);
 }
 
 /// Counterexamples over clauses look at both masks too: none by an action that never applies.
