@@ -136,6 +136,11 @@ impl Misreading {
         misread
     }
 
+    /// Whether it takes some untrue statements for true: where less is on the left, or more on the right.
+    pub fn accepts_untrue(self) -> bool {
+        !matches!(self, Misreading::Ignored | Misreading::OnAlone)
+    }
+
     /// Changes a task to one of which the misreading makes another: fewer actions apply, fewer states are the goal's.
     fn tempt(self, random: &mut Random, task: &mut Task) {
         let fact = random.bit(task.all_facts());
@@ -164,16 +169,17 @@ fn looked_at_after(action: &mut Action) {
 
 /// A certificate, and beside it a statement that one of the misreadings takes for true where it is not, or the other way about.
 fn telling(random: &mut Random) -> Draft {
+    let misreading = random.pick(&Misreading::ALL);
+    let holds = !misreading.accepts_untrue() || random.chance(50);
     loop {
         let (mut b, ending) = certificates::random(random);
         if !Places::of(b.file.task.version).has_off() {
             continue;
         }
-        let misreading = b.random.pick(&Misreading::ALL);
         misreading.tempt(b.random, &mut b.file.task);
         applications::add_pool(&mut b);
         applications::add_pool(&mut b);
-        if add_telling(&mut b, misreading) {
+        if add_telling(&mut b, misreading, holds) {
             add_regressions(&mut b);
             finish(&mut b, ending);
             return Draft::of(&b.file);
@@ -181,14 +187,14 @@ fn telling(random: &mut Random) -> Draft {
     }
 }
 
-/// Adds such a statement where a few tries find one.
-fn add_telling(b: &mut Builder, misreading: Misreading) -> bool {
+/// Adds such a statement, which holds or does not, where a few tries find one.
+fn add_telling(b: &mut Builder, misreading: Misreading, wanted: bool) -> bool {
     let misread = misreading.of(&b.file.task);
     (0..60).any(|_| {
         let mark = b.mark();
         let (rule, judgement) = statement(b);
         let number = b.step(rule, judgement, &[]) as usize;
-        let told = holds(&b.file, number) != holds_misread(b, &misread, number);
+        let told = holds(&b.file, number) == wanted && holds_misread(b, &misread, number) != wanted;
         if !told {
             b.take_back(mark);
         }

@@ -148,7 +148,7 @@ fn label(draft: &Draft, step: &Step) -> String {
 fn pool(random: &mut Random, n: u8) -> Builder<'_> {
     let (mut task, _) = tasks::reachable(random, n, 64);
     for _ in 0..random.below(3) {
-        task.actions.push(tasks::action(random, task.all_facts()));
+        task.actions.push(tasks::action_of(random, task.version, task.all_facts()));
     }
     let mut b = Builder::new(task, random);
     add_pool(&mut b);
@@ -194,7 +194,7 @@ fn listed_states() {
         let n = if seed % 2 == 0 { random.between(2, 6) } else { random.between(7, 64) } as u8;
         let facts = all_facts(n);
         let (mut task, _) = tasks::reachable(&mut random, n, 8);
-        task.actions.extend((0..3).map(|_| tasks::action(&mut random, facts)));
+        task.actions.extend((0..3).map(|_| tasks::action_of(&mut random, task.version, facts)));
         let states: Vec<u64> =
             (0..6).map(|k| random.mask(facts, 1) | task.actions[k % task.actions.len()].pre).collect();
         let led: Vec<u64> =
