@@ -5,7 +5,7 @@ mod common;
 
 use std::collections::{BTreeMap, BTreeSet};
 
-use common::{has_state, is_goal, is_init, lead};
+use common::{all_replies, has_state, is_goal, reach};
 use reference::assemble::{assemble, parse};
 use reference::draft::{mend_length, sample, step, Draft, DraftSet};
 use reference::explain::explain;
@@ -18,7 +18,7 @@ use reference::names::Names;
 use reference::show::{show, text};
 use reference::task::{Action, Ready};
 use reference::version::Places;
-use reference::{ask, check, check_numbered, check_round, check_small, layout, steps, Reply};
+use reference::{ask, check, layout, steps, Reply};
 
 /// The sample as version 3, with these facts off in a goal state and these needed off by its two actions.
 fn third(goal_off: u64, off: [u64; 2]) -> Draft {
@@ -29,18 +29,6 @@ fn third(goal_off: u64, off: [u64; 2]) -> Draft {
 
 fn reply(draft: &Draft) -> String {
     check(&draft.encode()).to_string()
-}
-
-/// What each of the functions says of a file: check, question, round, small check, check with a list.
-fn all_replies(bytes: &[u8]) -> [String; 5] {
-    let list: Vec<u8> = (1..=28).collect();
-    [
-        check(bytes).to_string(),
-        ask(bytes, 1, 0).to_string(),
-        check_round(bytes, 0, 1).to_string(),
-        check_small(bytes).to_string(),
-        check_numbered(bytes, &list).to_string(),
-    ]
 }
 
 /// j1: where version 3 has its fields.
@@ -282,19 +270,6 @@ fn no_goal_state_at_all() {
     assert_eq!(reply(&Draft { version: 2, ..d }), "refused 11 1");
 }
 
-/// The states within reach, by repeated passes.
-fn reach(d: &Draft) -> BTreeSet<u64> {
-    let mut states: BTreeSet<u64> = (0..1 << d.facts).filter(|state| is_init(d, *state)).collect();
-    loop {
-        let led = states.iter().flat_map(|s| d.actions.iter().filter_map(|a| lead(a, *s)));
-        let more: Vec<u64> = led.filter(|state| !states.contains(state)).collect();
-        if more.is_empty() {
-            return states;
-        }
-        states.extend(more);
-    }
-}
-
 /// The certain certificate is accepted exactly where no forbidden state is within reach. Both are met: states with one mask alone, and a
 /// reach that the masks of actions make smaller.
 #[test]
@@ -426,9 +401,7 @@ fn the_generator_reaches_the_replies() {
         if said == "refused 3 30" || (said.starts_with("refused 3 ") && case.bytes.len() >= 64) {
             ends.insert(case.bytes.len());
         }
-        if ["refused 5 30", "refused 5 64", "refused 16 14"].contains(&said.as_str()) {
-            *seen.entry((call, said)).or_default() += 1;
-        }
+        *seen.entry((call, said)).or_default() += 1;
         let Ok(file) = layout::read(&case.bytes) else { continue };
         never += file.task.actions.iter().any(Action::never_applies) as usize;
         let (on, off) = (file.task.goal, file.task.goal_off);
@@ -436,9 +409,11 @@ fn the_generator_reaches_the_replies() {
         forms.iter_mut().zip(form).for_each(|(count, so)| *count += so as usize);
     }
     for call in ["check", "ask", "round", "small", "numbered"] {
-        for said in ["refused 5 30", "refused 5 64", "refused 16 14"] {
-            let count = seen.get(&(call.into(), said.into())).copied().unwrap_or(0);
-            assert!(count >= 3, "{call}, {said}: {count}");
+        // At the goal's mask, at those of the first three actions, and 16.
+        for places in [&["5 30"][..], &["5 64", "5 96", "5 128"], &["16 14"]] {
+            let said = places.iter().map(|place| format!("refused {place}"));
+            let count: usize = said.filter_map(|said| seen.get(&(call.into(), said))).sum();
+            assert!(count >= 3, "{call}, {places:?}: {count}");
         }
     }
     // Cut at every byte of both masks: the goal's, and the first action's.

@@ -5,7 +5,7 @@ mod common;
 
 use std::collections::{BTreeMap, BTreeSet};
 
-use common::{has_state, is_goal, is_init, lead};
+use common::{all_replies, has_state, is_goal, is_init, reach};
 use reference::assemble::{assemble, parse};
 use reference::draft::{mend_length, sample, step, Draft, DraftSet};
 use reference::explain::explain;
@@ -18,7 +18,7 @@ use reference::names::Names;
 use reference::show::{show, text};
 use reference::task::{all_facts, Action, Task};
 use reference::version::Places;
-use reference::{ask, check, check_numbered, check_round, check_small, layout};
+use reference::{ask, check, layout};
 
 /// The sample as version 2, with these facts unknown.
 fn second(unknown: u64) -> Draft {
@@ -27,18 +27,6 @@ fn second(unknown: u64) -> Draft {
 
 fn reply(draft: &Draft) -> String {
     check(&draft.encode()).to_string()
-}
-
-/// What each of the functions says of a file: check, question, round, small check, check with a list.
-fn all_replies(bytes: &[u8]) -> [String; 5] {
-    let list: Vec<u8> = (1..=28).collect();
-    [
-        check(bytes).to_string(),
-        ask(bytes, 1, 0).to_string(),
-        check_round(bytes, 0, 1).to_string(),
-        check_small(bytes).to_string(),
-        check_numbered(bytes, &list).to_string(),
-    ]
 }
 
 /// The places of versions 1 and 2, as the documents name them.
@@ -299,19 +287,6 @@ fn b4_does_not_take_kind_1() {
         for (left, right) in [(1, 6), (1, 7), (1, 3), (3, 1), (6, 1), (12, 6), (3, 12), (1, 1)] {
             assert_eq!(stated(unknown, "= ~ 1", 4, left, right), "refused 10", "{left} < {right}");
         }
-    }
-}
-
-/// The states within reach of every initial state, by repeated passes.
-fn reach(d: &Draft) -> BTreeSet<u64> {
-    let mut states: BTreeSet<u64> = (0..1 << d.facts).filter(|state| is_init(d, *state)).collect();
-    loop {
-        let led = states.iter().flat_map(|s| d.actions.iter().filter_map(|a| lead(a, *s)));
-        let more: Vec<u64> = led.filter(|state| !states.contains(state)).collect();
-        if more.is_empty() {
-            return states;
-        }
-        states.extend(more);
     }
 }
 

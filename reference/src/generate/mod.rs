@@ -202,6 +202,23 @@ fn some_call(random: &mut Random, d: &Draft, question: impl FnOnce(&mut Random) 
     }
 }
 
+/// The bytes of a draft, in half of the cases with something changed: what `nearly` changes, what `faulty` makes unlawful, or anything.
+fn perhaps_spoiled(
+    random: &mut Random,
+    d: &mut Draft,
+    nearly: fn(&mut Random, &mut Draft),
+    faulty: fn(&mut Random, &mut Draft) -> Vec<u8>,
+) -> Vec<u8> {
+    match random.below(20) {
+        0..=3 => nearly(random, d),
+        4 | 5 => mutate::draft(random, d),
+        6 | 7 => return faulty(random, d),
+        8 => return mutate::bytes(random, d),
+        _ => (),
+    }
+    d.encode()
+}
+
 /// The file of a case that is a check.
 fn plain_file(random: &mut Random) -> Vec<u8> {
     loop {

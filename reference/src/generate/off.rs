@@ -7,7 +7,7 @@ use crate::file::{File, Judgement, StateSet};
 use crate::generate::builder::{Builder, ALL, GOAL};
 use crate::generate::certificates::{self, by_pg, by_pi, finish};
 use crate::generate::random::Random;
-use crate::generate::{applications, certificate, mutate, some_call, tasks, Case};
+use crate::generate::{applications, certificate, mutate, perhaps_spoiled, some_call, tasks, Case};
 use crate::steps::check_step;
 use crate::task::{all_facts, Action, Task};
 use crate::version::Places;
@@ -24,20 +24,7 @@ fn off_case(random: &mut Random) -> Case {
         _ => telling(random),
     };
     let call = some_call(random, &d, |random| about_off(random, &d));
-    let bytes = match random.below(20) {
-        0..=3 => {
-            nearly(random, &mut d);
-            d.encode()
-        }
-        4 => {
-            mutate::draft(random, &mut d);
-            d.encode()
-        }
-        5..=7 => faulty(random, &mut d),
-        8 => mutate::bytes(random, &d),
-        _ => d.encode(),
-    };
-    Case { call, bytes }
+    Case { call, bytes: perhaps_spoiled(random, &mut d, nearly, faulty) }
 }
 
 /// A certificate of any form in which a mask of facts off is not empty.
@@ -53,12 +40,8 @@ fn any(random: &mut Random) -> Draft {
 /// The sample's form, or PI's, over all states within reach: accepted exactly where none of them is a goal state.
 pub fn certain(random: &mut Random) -> Draft {
     let n = random.between(2, 8) as u8;
-    let (mut task, states) = loop {
-        let found = tasks::reachable(random, n, 60);
-        if Places::of(found.0.version).has_off() {
-            break found;
-        }
-    };
+    let has_off = |task: &Task| Places::of(task.version).has_off();
+    let (mut task, states) = tasks::reachable_where(random, n, 60, has_off);
     if random.chance(80) {
         let reached: Vec<u64> = states.iter().copied().collect();
         let state = random.pick(&reached);

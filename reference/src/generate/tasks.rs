@@ -92,6 +92,21 @@ pub fn reachable(random: &mut Random, n: u8, limit: usize) -> (Task, BTreeSet<St
     (task, states)
 }
 
+/// The same, tried again until the task is a wanted one.
+pub fn reachable_where(
+    random: &mut Random,
+    n: u8,
+    limit: usize,
+    wanted: impl Fn(&Task) -> bool,
+) -> (Task, BTreeSet<State>) {
+    loop {
+        let found = reachable(random, n, limit);
+        if wanted(&found.0) {
+            return found;
+        }
+    }
+}
+
 /// The states within reach of all initial states; none where there are more than `limit`.
 pub fn explore(task: &Task, limit: usize) -> Option<BTreeSet<State>> {
     let mut states: BTreeSet<State> = task.inits().take(limit + 1).collect();

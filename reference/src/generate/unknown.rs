@@ -9,7 +9,7 @@ use crate::generate::certificates::{by_pg, by_pi, finish};
 use crate::generate::limits::Cube;
 use crate::generate::random::Random;
 use crate::generate::tasks::{self, need_off, some_facts, some_off};
-use crate::generate::{applications, certificate, mutate, some_call, Case};
+use crate::generate::{applications, certificate, mutate, perhaps_spoiled, some_call, Case};
 use crate::shape::MAX_UNKNOWN;
 use crate::task::{all_facts, Action, Task};
 use crate::version::Places;
@@ -27,20 +27,7 @@ pub(super) fn unknown_case(random: &mut Random) -> Case {
         _ => wide(random),
     };
     let call = some_call(random, &d, |random| about_init(random, &d));
-    let bytes = match random.below(20) {
-        0..=3 => {
-            nearly(random, &mut d);
-            d.encode()
-        }
-        4 | 5 => {
-            mutate::draft(random, &mut d);
-            d.encode()
-        }
-        6 | 7 => faulty_mask(random, &mut d),
-        8 => mutate::bytes(random, &d),
-        _ => d.encode(),
-    };
-    Case { call, bytes }
+    Case { call, bytes: perhaps_spoiled(random, &mut d, nearly, faulty_mask) }
 }
 
 /// A certificate of any form whose task has unknown facts.
@@ -57,12 +44,7 @@ fn any(random: &mut Random) -> Draft {
 /// In half of the cases the goal is all that is on in one of them.
 pub fn certain(random: &mut Random) -> Draft {
     let n = random.between(2, 8) as u8;
-    let (mut task, states) = loop {
-        let found = tasks::reachable(random, n, 60);
-        if found.0.unknown != 0 {
-            break found;
-        }
-    };
+    let (mut task, states) = tasks::reachable_where(random, n, 60, |task| task.unknown != 0);
     if random.chance(50) {
         let reached: Vec<u64> = states.iter().copied().collect();
         task.goal = random.pick(&reached);

@@ -7,12 +7,14 @@ pub mod labels;
 pub mod naming;
 pub mod program;
 
+use std::collections::BTreeSet;
+
 use reference::draft::{Draft, DraftActions, DraftSet};
 use reference::file::{Clause, File, Step};
 use reference::pattern::{match_claim, parse, NO_LETTERS};
 use reference::rules::RULES;
 use reference::task::Action;
-use reference::Reply;
+use reference::{ask, check_numbered, check_round, check_small, Reply};
 
 /// The states of each state set and the actions of each action set, as tables.
 pub struct Meaning {
@@ -112,6 +114,19 @@ pub fn lead(action: &Action, from: u64) -> Option<u64> {
     let applies = (0..64).all(|f| if on(from, f) { !on(action.off, f) } else { !on(action.pre, f) });
     let after = |f: u8| on(action.add, f) || (on(from, f) && !on(action.del, f));
     applies.then(|| (0..64).filter(|f| after(*f)).map(|f| 1u64 << f).sum())
+}
+
+/// The states within reach of every initial state, by repeated passes.
+pub fn reach(draft: &Draft) -> BTreeSet<u64> {
+    let mut states: BTreeSet<u64> = (0..1 << draft.facts).filter(|state| is_init(draft, *state)).collect();
+    loop {
+        let led = states.iter().flat_map(|s| draft.actions.iter().filter_map(|a| lead(a, *s)));
+        let more: Vec<u64> = led.filter(|state| !states.contains(state)).collect();
+        if more.is_empty() {
+            return states;
+        }
+        states.extend(more);
+    }
 }
 
 /// Whether the action is in an action set, by the meaning of its kind.
@@ -356,4 +371,16 @@ pub fn check(file: &File) -> Reply {
         3 => Reply::Accepted,
         _ => Reply::Refused { number: 12, place: last as u64 },
     }
+}
+
+/// What each of the functions of the checker says of a file: check, question, round, small check, check with a list.
+pub fn all_replies(bytes: &[u8]) -> [String; 5] {
+    let list: Vec<u8> = (1..=28).collect();
+    [
+        reference::check(bytes).to_string(),
+        ask(bytes, 1, 0).to_string(),
+        check_round(bytes, 0, 1).to_string(),
+        check_small(bytes).to_string(),
+        check_numbered(bytes, &list).to_string(),
+    ]
 }
