@@ -5,7 +5,6 @@ use crate::fault::Fault;
 use crate::file::{File, StateSet};
 use crate::layout;
 use crate::shape::{self, Bracket, Method, Statement};
-use crate::task::Task;
 
 /// A step's statement and its looks.
 #[derive(Clone, Copy, Debug, PartialEq, Eq)]
@@ -33,7 +32,6 @@ pub fn of(bytes: &[u8]) -> Result<Vec<Cost>, Fault> {
 fn looks(file: &File, statement: &Statement) -> u64 {
     let n = file.task.facts as u64;
     let Statement { left, inside, right, bracket, method } = statement;
-    let clauses = |set: &StateSet| clauses(&file.task, set);
     let all: u64 = left.all().iter().chain(inside.all()).map(clauses).sum();
     let mut right = right.all().iter().filter(|set| **set != StateSet::Empty).map(clauses);
     let (first, second) = (right.next().unwrap_or(1), right.next().unwrap_or(1));
@@ -47,12 +45,11 @@ fn looks(file: &File, statement: &Statement) -> u64 {
     actions * all * (n + 1 + search + n * first + n * first * second)
 }
 
-/// How many clauses a leaf has: the empty set one, the initial state and the goal one for each of
-/// 64 facts, and the goal one more for each that it wants both on and off.
-fn clauses(task: &Task, set: &StateSet) -> u64 {
+/// How many clauses a leaf has: the empty set one, the initial states and the goal one for each of
+/// 64 facts.
+fn clauses(set: &StateSet) -> u64 {
     match set {
-        StateSet::Init => 64,
-        StateSet::Goal => 64 + (task.goal & task.goal_off).count_ones() as u64,
+        StateSet::Init | StateSet::Goal => 64,
         StateSet::Horn(span) | StateSet::TwoCnf(span) => (span.to - span.from) as u64,
         _ => 1,
     }
