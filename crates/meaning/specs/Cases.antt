@@ -98,13 +98,14 @@ leaveFile unknown = record {
 
 -- ---- document 02, j
 
--- the sample as version 3, with the two forbidden masks as given; its events clear nothing, and what they need off is given: the first
--- sets fact 0, the second fact 1. Set 3 and the steps as given
+-- the sample's table as version 3, with start, unknown facts and the two forbidden masks as given; its events clear nothing, the first sets
+-- fact 0, the second fact 1, and what each needs off is given
 unfoldable pub offTable : ℕ → ℕ → ℕ → ℕ → ℕ → ℕ → List ℕ
 offTable start unknown forbidden off first second =
     3 ∷ 2 ∷ word start ++ word unknown ++ word forbidden ++ word off
     ++ 0 ∷ 2 ∷ word 0 ++ word 1 ++ word 0 ++ word first ++ word 0 ++ word 2 ++ word 0 ++ word second
 
+-- with the sample's sets, set 3 and the steps as given
 unfoldable pub offBytes : List ℕ → List ℕ → List ℕ → List ℕ
 offBytes table three steps = withLength (table ++ 0 ∷ 1 ∷ 0 ∷ 1 ∷ 0 ∷ setBytes three 3 0 ++ steps)
 
