@@ -50,7 +50,9 @@ module _ (bytes : List ℕ) (index : List ℕ) (k : Known bytes index) where
 
   pub none-fits : FitsAction (f .task .facts) noAction
   unfolding noAction
-  none-fits = let l = read-file bytes (k .read) .task .init in record { pre = omega arith; add = omega arith; del = omega arith; off = omega arith }
+  none-fits =
+      let l = read-file bytes (k .read) .task .init in
+      record { pre = omega arith; add = omega arith; del = omega arith; off = omega arith }
 
   -- ---- leaves of some kinds
 

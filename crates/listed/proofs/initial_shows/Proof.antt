@@ -40,7 +40,8 @@ first-initial-requires : tie.Need-first-initial-requires Inv-loop μ-loop
 first-initial-requires c κs =
     let v = c .before .before in
     let s = v .before .before .before .before .before in
-    ((v .before .by-rows .ensures, c .loop .inv .1, some-ordered _ _ _ (s .args .a) _ _ (s .pre .0 .1) (v .states-after .ensures)), s .pre .1)
+    let o = some-ordered _ _ _ (s .args .a) _ _ (s .pre .0 .1) (v .states-after .ensures) in
+    ((v .before .by-rows .ensures, c .loop .inv .1, o), s .pre .1)
 
 sub-shows-in : tie.Need-sub-shows-in Inv-loop μ-loop
 sub-shows-in c = below-top (c .before .before .before .before .before .before .before .before .args .ends) _ (c .first-initial .ensures .0)
