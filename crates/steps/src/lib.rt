@@ -34,9 +34,9 @@ fn rule_of(file: &[u8], at: Places, rules: &RuleTable, k: u16, end: u16) -> u8
 // step ahead, so that it is there when the step's branches go by it.
 pub fn check_steps(
     file: &[u8],
-    at: Places,
     index: &Index,
     rules: &RuleTable,
+    at: Places,
     from: u16,
     count: u16,
 ) -> Reply
@@ -80,13 +80,13 @@ fn last_step(file: &[u8], at: Places) -> Reply
 }
 
 // All steps from one on, and then whether the last one says "unsolvable".
-pub fn check_from(file: &[u8], at: Places, index: &Index, rules: &RuleTable, from: u16) -> Reply
+pub fn check_from(file: &[u8], index: &Index, rules: &RuleTable, at: Places, from: u16) -> Reply
     requires { ⌜ Placed (now file) at ⌝ }
     requires { ⌜ Known (now file) (now index) ⌝ }
     requires { ⌜ from < at .steps ⌝ }
     ensures { λ r. ⌜ ((g : ℕ → ℕ) → Stands (now (rules .entry)) g → r ≡ replyTo (checkFrom (rewritten g (decoded (now (file .entry)))) from)) ⌝ }
 {
-    match check_steps(file, at, index, rules, from, at.steps - from) {
+    match check_steps(file, index, rules, at, from, at.steps - from) {
         Reply::Accepted => last_step(file, at),
         Reply::Refused { number, place } => Reply::Refused { number, place },
     }

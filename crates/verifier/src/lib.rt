@@ -45,7 +45,7 @@ fn check_by(file: &[u8], limits: Limits, rules: &RuleTable) -> Reply
         Outline::Lawful(at) => {
             let mut index = [0u16; 8961];
             put_entries(file, at, &mut index);
-            check_from(file, at, &index, rules, 0)
+            check_from(file, &index, rules, at, 0)
         }
     }
 }
@@ -121,10 +121,10 @@ fn round_of(file: &[u8], at: Places, index: &Index, from: u64, count: u64) -> Ro
     let rules = own_numbers();
     let first = from as u16;
     if count < steps - from {
-        let reply = check_steps(file, at, index, &rules, first, count as u16);
+        let reply = check_steps(file, index, &rules, at, first, count as u16);
         round_by(reply, Round::GoOn(from + count))
     } else {
-        let reply = check_from(file, at, index, &rules, first);
+        let reply = check_from(file, index, &rules, at, first);
         round_by(reply, Round::Ended)
     }
 }

@@ -16,13 +16,13 @@ use Rattle.steps.proofs.check_steps.Statement.{statement}
 use Rattle.steps.proofs.check_steps.Tie as tie
 
 abbrev Inv-loop : tie.InvT-loop
-Inv-loop file at index rules from count end next₀ k₀ next k =
+Inv-loop file index rules at from count end next₀ k₀ next k =
     ((end ≡ from + count) × (end ≤ at .steps) × (end < 65536) × (k ≤ end))
     × (k < end → (next ≡ getD rules (stepAt (decoded file) k .rule) 0) × (stepAt (decoded file) k .rule < 256))
     × ((g : ℕ → ℕ) → Stands rules g → Passing (rewritten g (decoded file)) from count k)
 
 abbrev μ-loop : tie.MeasureT-loop
-μ-loop file at index rules from count end next₀ k₀ next k = end - k
+μ-loop file index rules at from count end next₀ k₀ next k = end - k
 
 loop-holds : tie.Need-loop-holds Inv-loop μ-loop
 loop-holds c = ((search needs, search needs, search needs, search needs), c .rule-of .ensures, λ g _. passing-start _ _ _)
