@@ -1,17 +1,22 @@
--- The initial states, tried by the masks d within the unknown facts: each is top - d, where top has all unknown facts.
+-- The initial states in which an action applies: each is `top` less a mask of unknown facts that the action keeps and a mask of unknown
+-- facts that it changes, of those that it does not need. And how the masks within a mask are passed, one after the other.
 -- Assumes nothing.
-use mathlib.Core.Path.{_≡_, subst}
-use Prim.Native.Nat.{ℕ, _-_, _^_, _≤_, _<_}
+use mathlib.Core.Path.{_≡_, subst, sym, ap, ap₂, _∙_}
+use Prim.Native.Nat.{ℕ, _+_, _-_, _^_, _≤_, _<_, min, max}
 use native.Mathlib.Omega.{arith}
 use native.Mathlib.Decide.{decLt}
-use lib.Bits.{bitAnd, and-le-l, or-add-and, or-lt}
+use lib.Bits.{bitAnd, bitOr, and-le-l, or-lt}
 use lib.Dec.{T, eqb→eq}
+use Rattle.task.specs.declared.Action.{Action}
 use Rattle.task.specs.declared.Ends.{Ends}
-use Rattle.task.specs.Facts.{allOn}
-use Rattle.task.specs.Inner.{atInit}
-use Rattle.task.proofs.Bits.{all-on-of}
-use Rattle.task.proofs.Submasks.{below-next, init-to}
-use Rattle.listed.specs.Search.{topOf, Passed}
+use Rattle.task.specs.Facts.{allOn, without}
+use Rattle.task.specs.Task.{applies, after}
+use Rattle.task.specs.Inner.{bit, atInit}
+use Rattle.task.proofs.Bits.{bit-le, bit-and, bit-or, bit-without, without-and, same-bits, all-on-at, all-on-of}
+use Rattle.task.proofs.Bits.{add-wins, del-last, fact-stays}
+use Rattle.task.proofs.Names.{at-init-facts, at-init-of, applies-facts, applies-of}
+use Rattle.task.proofs.Submasks.{below-next, bit-less, init-to}
+use Rattle.listed.specs.Search.{Passed, Split}
 
 -- ---- from one mask to the next
 
@@ -22,40 +27,172 @@ within-le : (d u : ℕ) → T (allOn d u) → d ≤ u
 unfolding allOn
 within-le d u h = omega (arith, eqb→eq (bitAnd u d) d h, and-le-l u d)
 
-module _ (top u : ℕ) (Q : ℕ → Type 0) where
-  pub none-passed : (d : ℕ) → Passed top u Q d d
+pub within-within : (d u s : ℕ) → T (allOn d u) → T (allOn u s) → T (allOn d s)
+within-within d u s h k = all-on-of d s (λ f. omega (arith, all-on-at d u h f, all-on-at u s k f))
+
+pub less-le : (d u s : ℕ) → T (allOn d u) → T (allOn u s) → d ≤ s
+less-le d u s h k = within-le d s (within-within d u s h k)
+
+-- what is taken away and what is left
+bit-left : (f s d : ℕ) → T (allOn d s) → bit f (s - d) + bit f d ≡ bit f s
+bit-left f s d h = omega (arith, bit-less f s d h, all-on-at d s h f, bit-le f s)
+
+module _ (s u : ℕ) (Q : ℕ → Type 0) where
+  pub none-passed : (d : ℕ) → Passed s u Q d d
   none-passed d e w l m = absurd (omega arith)
 
-  pub passed-on : (from d r : ℕ) → Passed top u Q from d → Passed top u Q d r → Passed top u Q from r
+  pub passed-on : (from d r : ℕ) → Passed s u Q from d → Passed s u Q d r → Passed s u Q from r
   passed-on from d r p q e w l m = elim (decLt d e) [ yes n ↦ p e w n m | no n ↦ q e w l (omega arith) ]
 
-  pub passed-next : (from d : ℕ) → T (allOn d u) → Passed top u Q from d → Q (top - d) → Passed top u Q from (bitAnd (d - 1) u)
+  pub passed-next : (from d : ℕ) → T (allOn d u) → Passed s u Q from d → Q (s - d) → Passed s u Q from (bitAnd (d - 1) u)
   passed-next from d h p q e w l m =
       elim (decLt d e) [
         | yes n ↦ p e w n m
         | no n ↦ elim (decLt e d) [
           | yes k ↦ absurd (omega (arith, below-next u d e h w k))
-          | no k ↦ let i : d ≡ e = omega arith in subst (λ (x : ℕ). Q (top - x)) i q
+          | no k ↦ let i : d ≡ e = omega arith in subst (λ (x : ℕ). Q (s - x)) i q
         ]
+      ]
+
+  -- each of them was passed, once the last was
+  pub passed-each : (d : ℕ) → d ≡ 0 → Passed s u Q u d → Q (s - d) → (e : ℕ) → T (allOn e u) → Q (s - e)
+  passed-each d z p q e w =
+      elim (decLt d e) [
+        | yes n ↦ p e w n (within-le e u w)
+        | no n ↦ let i : d ≡ e = omega arith in subst (λ (x : ℕ). Q (s - x)) i q
       ]
 
 -- ---- the initial states
 
-module _ (ends : Ends) where
-  pub below-top : (d : ℕ) → T (allOn d (ends .unknown)) → d ≤ topOf ends
-  below-top d h =
-      omega (arith, within-le d (ends .unknown) h, or-add-and (ends .init) (ends .unknown), and-le-l (ends .init) (ends .unknown))
+pub initial-low : (ends : Ends) (s : ℕ) → (ends .init < 2 ^ ends .facts) × (ends .unknown < 2 ^ ends .facts) → T (atInit ends s)
+    → s < 2 ^ ends .facts
+initial-low ends s l h = omega (arith, init-to ends s h .0, or-lt (ends .facts) (ends .init) (ends .unknown) (l .0) (l .1))
 
-  pub initial-low : (s : ℕ) → (ends .init < 2 ^ ends .facts) × (ends .unknown < 2 ^ ends .facts) → T (atInit ends s) → s < 2 ^ ends .facts
-  initial-low s l h = omega (arith, init-to ends s h .0, or-lt (ends .facts) (ends .init) (ends .unknown) (l .0) (l .1))
+-- ---- where an action leads
 
-  -- each of them was passed, once the last was
-  pub passed-all : (Q : ℕ → Type 0) → Passed (topOf ends) (ends .unknown) Q (ends .unknown) 0 → Q (topOf ends - 0)
-      → (s : ℕ) → T (atInit ends s) → Q s
-  passed-all Q p q s h =
-      let (low, w) = init-to ends s h in
-      let d : ℕ = topOf ends - s in
-      elim (decLt 0 d) [
-        | yes n ↦ let i : topOf ends - d ≡ s = omega arith in subst Q i (p d w n (within-le d (ends .unknown) w))
-        | no n ↦ let i : topOf ends - 0 ≡ s = omega arith in subst Q i q
+-- facts that it changes are the same afterwards, whatever they were
+after-same : (a : Action) (s t f : ℕ) → (bit f (a .add) + bit f (a .del) ≡ 0 → bit f s ≡ bit f t) → bit f (after a s) ≡ bit f (after a t)
+after-same a s t f h =
+    elim (decLt 0 (bit f (a .add))) [
+      | yes l ↦ let e : bit f (a .add) ≡ 1 = omega (arith, bit-le f (a .add)) in add-wins a s f e ∙ sym (add-wins a t f e)
+      | no l ↦ let z : bit f (a .add) ≡ 0 = omega arith in elim (decLt 0 (bit f (a .del))) [
+        | yes m ↦ let e : bit f (a .del) ≡ 1 = omega (arith, bit-le f (a .del)) in del-last a s f e z ∙ sym (del-last a t f e z)
+        | no m ↦ let w : bit f (a .del) ≡ 0 = omega arith in fact-stays a s f w z ∙ h (omega arith) ∙ sym (fact-stays a t f w z)
       ]
+    ]
+
+-- ---- the masks, as the code works them out
+
+cleared : (f x y : ℕ) → x < 2 ^ 64 → y < 2 ^ 64 → bit f (bitAnd x (2 ^ 64 - 1 - y)) ≡ min (bit f x) (1 - bit f y)
+cleared f x y h l = ap (bit f) (without-and 64 x y h l) ∙ bit-without f x y
+
+and-low : (x y : ℕ) → x < 2 ^ 64 → bitAnd x y < 2 ^ 64
+and-low x y h = omega (arith, and-le-l x y)
+
+module _ (ends : Ends) (a : Action) (i : ends .init < 2 ^ 64) (u : ends .unknown < 2 ^ 64) (p : a .pre < 2 ^ 64) (o : a .off < 2 ^ 64)
+    (ad : a .add < 2 ^ 64) (de : a .del < 2 ^ 64) where
+  abbrev start : ℕ
+  start = bitOr (ends .init) (ends .unknown)
+
+  abbrev none : ℕ
+  none = bitAnd (a .off) (ends .unknown)
+
+  abbrev needed : ℕ
+  needed = bitOr (a .pre) (a .off)
+
+  abbrev effects : ℕ
+  effects = bitOr (a .add) (a .del)
+
+  abbrev free : ℕ
+  free = bitAnd (ends .unknown) (2 ^ 64 - 1 - needed)
+
+  module _ (f : ℕ) where
+    bit-top : bit f (bitAnd start (2 ^ 64 - 1 - none))
+        ≡ min (max (bit f (ends .init)) (bit f (ends .unknown))) (1 - min (bit f (a .off)) (bit f (ends .unknown)))
+    bit-top =
+        cleared f start none (or-lt 64 (ends .init) (ends .unknown) i u) (and-low (a .off) (ends .unknown) o)
+        ∙ ap₂ (λ (x y : ℕ). min x (1 - y)) (bit-or f (ends .init) (ends .unknown)) (bit-and f (a .off) (ends .unknown))
+
+    bit-free : bit f free ≡ min (bit f (ends .unknown)) (1 - max (bit f (a .pre)) (bit f (a .off)))
+    bit-free =
+        cleared f (ends .unknown) needed u (or-lt 64 (a .pre) (a .off) p o)
+        ∙ ap (λ (x : ℕ). min (bit f (ends .unknown)) (1 - x)) (bit-or f (a .pre) (a .off))
+
+    bit-kept-free : bit f (bitAnd free (2 ^ 64 - 1 - effects)) ≡ min (bit f free) (1 - bit f effects)
+    bit-kept-free = cleared f free effects (and-low (ends .unknown) _ u) (or-lt 64 (a .add) (a .del) ad de)
+
+    apart : bit f (bitAnd free (2 ^ 64 - 1 - effects)) + bit f (bitAnd free effects) ≡ bit f free
+    apart = omega (arith, bit-kept-free, bit-and f free effects, bit-le f free, bit-le f effects)
+
+  pub split-code : Split ends a (bitAnd start (2 ^ 64 - 1 - none)) (bitAnd free (2 ^ 64 - 1 - effects)) (bitAnd free effects)
+  split-code f = (
+    omega (arith, bit-top f, bit-le f (ends .init)),
+    omega (arith, bit-top f),
+    omega (arith, bit-top f, bit-le f (ends .unknown)),
+    omega (arith, bit-top f, bit-le f (ends .unknown), bit-le f (a .off)),
+    omega (arith, apart f, bit-free f),
+    omega (arith, apart f, bit-free f, bit-le f (ends .unknown)),
+    omega (arith, apart f, bit-free f, bit-le f (a .pre)),
+    omega (arith, apart f, bit-free f, bit-le f (a .off)),
+    omega (arith, bit-and f free effects, bit-or f (a .add) (a .del)),
+  )
+
+-- ---- the states that are tried
+
+module _ (ends : Ends) (a : Action) (top kept changed : ℕ) (split : Split ends a top kept changed) where
+  pub kept-within : T (allOn kept top)
+  kept-within = all-on-of kept top (λ f. let (i, j, k, l, m, n, o, p, q) = split f in omega arith)
+
+  pub top-applies : (s : ℕ) → T (atInit ends s) → T (applies a s) → T (applies a top)
+  top-applies s i h =
+      applies-of a top (λ f.
+      let (j, k, l, m, n, o, p, q, r) = split f in
+      let (t, u) = applies-facts a s h f in
+      elim (decLt 0 (bit f (ends .unknown))) [
+        | yes z ↦ (omega (arith, bit-le f s), omega arith)
+        | no z ↦ let e = at-init-facts ends s i f (omega arith) in (omega arith, omega arith)
+      ])
+
+  module _ (d : ℕ) (h : T (allOn d kept)) where
+    bit-kept : (f : ℕ) → bit f (top - d) + bit f d ≡ bit f top
+    bit-kept f = bit-left f top d (within-within d kept top h kept-within)
+
+    pub changed-within : T (allOn changed (top - d))
+    changed-within =
+        all-on-of changed (top - d) (λ f.
+        let (i, j, k, l, m, n, o, p, q) = split f in omega (arith, bit-kept f, all-on-at d kept h f))
+
+    module _ (e : ℕ) (k : T (allOn e changed)) where
+      bit-tried : (f : ℕ) → bit f (top - d - e) + bit f e ≡ bit f (top - d)
+      bit-tried f = bit-left f (top - d) e (within-within e changed (top - d) k changed-within)
+
+      pub tried-initial : T (atInit ends (top - d - e))
+      tried-initial =
+          at-init-of ends (top - d - e) (λ f z.
+          let (i, j, l, m, n, o, p, q, r) = split f in
+          omega (arith, bit-tried f, bit-kept f, all-on-at d kept h f, all-on-at e changed k f))
+
+      pub tried-after : after a (top - d - e) ≡ after a (top - d)
+      tried-after =
+          same-bits (after a (top - d - e)) (after a (top - d)) (λ f. after-same a (top - d - e) (top - d) f (λ z.
+          let (i, j, l, m, n, o, p, q, r) = split f in omega (arith, bit-tried f, all-on-at e changed k f)))
+
+  -- each initial state in which the action applies is tried
+  module _ (s : ℕ) (i : T (atInit ends s)) (h : T (applies a s)) where
+    missing : (m : ℕ) → T (allOn (without m s) m)
+    missing m = all-on-of (without m s) m (λ f. omega (arith, bit-without f m s))
+
+    found : top - without kept s - without changed s ≡ s
+    found =
+        same-bits _ s (λ f.
+        let (j, k, l, m, n, o, p, q, r) = split f in
+        let (t, u) = applies-facts a s h f in
+        let w = bit-tried (without kept s) (missing kept) (without changed s) (missing changed) f in
+        let x = bit-kept (without kept s) (missing kept) f in
+        elim (decLt 0 (bit f (ends .unknown))) [
+          | yes z ↦ omega (arith, bit-without f kept s, bit-without f changed s, bit-le f s)
+          | no z ↦ omega (arith, at-init-facts ends s i f (omega arith), all-on-at _ _ (missing kept) f, all-on-at _ _ (missing changed) f)
+        ])
+
+    pub tried : (d : ℕ) × T (allOn d kept) × ((e : ℕ) × T (allOn e changed) × (top - d - e ≡ s))
+    tried = (without kept s, missing kept, (without changed s, missing changed, found))

@@ -6,17 +6,17 @@ use Prim.Native.Nat.{ℕ, _+_, _-_, _*_, _^_, _≤_, _<_}
 use native.Mathlib.Omega.{arith}
 use native.Mathlib.Decide.{decLt}
 use mathlib.Core.Bool.{Bool, true, false, not, _&&_, _||_}
-use mathlib.Core.List.{List}
+use mathlib.Core.List.{List, []}
 use lib.ListN.{length}
 use lib.Bits.{bitOr}
-use lib.Dec.{T, eqb, eqb→eq}
+use lib.Dec.{T, eqb, eqb→eq, ltb, lt→ltb}
 use Rattle.task.specs.declared.Action.{Action}
 use Rattle.task.specs.declared.Ends.{Ends}
 use Rattle.task.specs.Task.{applies, after}
 use Rattle.task.specs.Reach.{member}
 use Rattle.task.proofs.Bits.{no-change}
 use Rattle.task.proofs.Tests.{and-left, and-right, and-both, both-ways, or-cases, or-left, or-right, excluded}
-use Rattle.task.proofs.Tests.{holds, is-false, never, same, member-none}
+use Rattle.task.proofs.Tests.{holds, is-true, is-false, never, same, member-none}
 use Rattle.bytes.specs.Numbers.{numberAt}
 use Rattle.meaning.specs.Sets.{allBelow, someBelow}
 use Rattle.meaning.proofs.Below.{all-at, all-of, some-at, some-of}
@@ -71,6 +71,11 @@ module _ (bytes : List ℕ) (ends : Ends) (a : Action) (left : List ℕ) (m : �
   unfolding showsIn
   shows-not-applies e = rw e
 
+  pub shows-applies : T (showsIn bytes ends a left m right r anchor s) → T (applies a s)
+  unfolding showsIn
+  shows-applies t =
+      let w = after a s in and-left (applies a s) (Lefts w) (and-left (applies a s && Lefts w) (Rights w) t)
+
   pub shows-not-left : {t : ℕ} → t ≡ after a s → Lefts t ≡ false → false ≡ showsIn bytes ends a left m right r anchor s
   unfolding showsIn
   shows-not-left e h = second-fails (applies a s) (Rights (after a s)) (rw e at h)
@@ -97,6 +102,17 @@ module _ (bytes : List ℕ) (ends : Ends) (a : Action) (left : List ℕ) (m : �
       third-fails (applies a s) (Lefts (after a s)) (is-false (Rights (after a s)) (λ h.
       let n = all-at r (λ j. not (holdsOne bytes ends s (after a s) (leafIn right j))) h 0 l in
       never (member (after a s) (statesAt bytes (p .at) (p .count))) t (rw (k, asked-after f) at n)))
+
+-- where no state is listed, none is found
+pub none-there : (bytes : List ℕ) (p : Span) (s : ℕ) → p .count ≡ 0 → ltb 0 (p .count) ≡ member s (statesAt bytes (p .at) (p .count))
+unfolding statesAt
+none-there bytes p s e = rw e (sym (is-false (member s []) (member-none s)))
+
+-- and one that stands there is found
+pub one-there : (bytes index : List ℕ) {p : Span} → InOrder bytes index p → (k : ℕ) → k < p .count → {s : ℕ} → stateIn bytes index p k ≡ s
+    → ltb k (p .count) ≡ member s (statesAt bytes (p .at) (p .count))
+one-there bytes index {p} o k l e =
+    is-true _ (lt→ltb k (p .count) l) ∙ sym (is-true _ (rw e at (listed-at bytes (p .at) (p .count) (rowOf index p k) (o .below k l))))
 
 -- the states of the first right leaf are in order, and one that leads to them is not shown
 module _ (bytes : List ℕ) (right : List ℕ) (r : ℕ) (a : Action) (p : Span) where

@@ -2,7 +2,7 @@
 -- Assumes nothing.
 use mathlib.Core.Path.{_≡_}
 use mathlib.Core.Logic.{_⊎_}
-use Prim.Native.Nat.{ℕ, _-_, _≤_, _<_}
+use Prim.Native.Nat.{ℕ, _+_, _-_, _≤_, _<_}
 use mathlib.Core.Bool.{Bool, true, false, not, _&&_, _||_}
 use mathlib.Core.List.{List}
 use lib.ListN.{length}
@@ -12,7 +12,7 @@ use Rattle.task.specs.declared.Action.{Action}
 use Rattle.task.specs.declared.Ends.{Ends}
 use Rattle.task.specs.Facts.{allOn}
 use Rattle.task.specs.Task.{applies, after}
-use Rattle.task.specs.Inner.{atInit}
+use Rattle.task.specs.Inner.{bit, atInit}
 use Rattle.task.specs.Reach.{member}
 use Rattle.meaning.specs.Sets.{allBelow}
 use Rattle.certificate.specs.declared.Span.{Span}
@@ -39,21 +39,36 @@ abbrev pub Different : List ℕ → Span → ℕ → Type 0
 Different index x m =
     (m ≤ x .count) × (0 < x .count → (0 < m) × (rowOf index x (m - 1) ≡ rowOf index x (x .count - 1)))
 
+-- the action leads from s to one of the listed states
+abbrev pub Led : List ℕ → Span → Action → ℕ → Type 0
+Led bytes p a s = member (after a s) (statesAt bytes (p .at) (p .count)) ≡ true
+
 -- the action does not apply in s, or leads from it to one of the listed states
 abbrev pub Closed : List ℕ → Span → Action → ℕ → Type 0
-Closed bytes p a s = (applies a s ≡ false) ⊎ (member (after a s) (statesAt bytes (p .at) (p .count)) ≡ true)
+Closed bytes p a s = (applies a s ≡ false) ⊎ Led bytes p a s
 
--- the start with all unknown facts on
-abbrev pub topOf : Ends → ℕ
-topOf ends = bitOr (ends .init) (ends .unknown)
-
--- each state top - d, for d within the mask up to `from` and above r, is so
+-- each state s - d, for a mask d within the mask up to `from` and above r, is so
 abbrev pub Passed : ℕ → ℕ → (ℕ → Type 0) → ℕ → ℕ → Type 0
-Passed top mask Q from r = (d : ℕ) → T (allOn d mask) → r < d → d ≤ from → Q (top - d)
+Passed s mask Q from r = (d : ℕ) → T (allOn d mask) → r < d → d ≤ from → Q (s - d)
+
+-- a state s - e passes the test, for a mask e within the mask
+abbrev pub OneLess : ℕ → ℕ → (ℕ → Bool) → Type 0
+OneLess s mask p = (e : ℕ) × T (allOn e mask) × T (p (s - e))
 
 -- an initial state passes the test
 abbrev pub OneInitial : Ends → (ℕ → Bool) → Type 0
 OneInitial ends p = (s : ℕ) × T (atInit ends s) × T (p s)
+
+-- top is the start, with the unknown facts on but those that the action needs off; kept and changed are the unknown facts that it does not
+-- need, and of them it adds or deletes those of the second
+abbrev pub Split : Ends → Action → ℕ → ℕ → ℕ → Type 0
+Split ends a top kept changed = (f : ℕ) →
+    (bit f (ends .init) ≤ bit f top + bit f (ends .unknown)) × (bit f top ≤ bit f (ends .init) + bit f (ends .unknown))
+    × (bit f (ends .unknown) ≤ bit f top + bit f (a .off)) × (bit f (ends .unknown) + (bit f top + bit f (a .off)) ≤ 2)
+    × (bit f kept + bit f changed ≤ bit f (ends .unknown))
+    × (bit f (ends .unknown) ≤ bit f kept + bit f changed + (bit f (a .pre) + bit f (a .off)))
+    × (bit f kept + bit f changed + bit f (a .pre) ≤ 1) × (bit f kept + bit f changed + bit f (a .off) ≤ 1)
+    × (bit f changed ≤ bit f (a .add) + bit f (a .del))
 
 module _ (bytes : List ℕ) (ends : Ends) where
   -- a leaf holds s, or t where it is asked about the state after the action

@@ -19,16 +19,17 @@ ghost use Prim.Native.Nat.{ℕ, _+_, _*_, _≤_, _<_};
 ghost use mathlib.Core.Bool.{not, _||_};
 ghost use lib.Bits.{bitAnd};
 ghost use lib.ListN.{length};
-ghost use lib.Dec.{T, eqb};
+ghost use lib.Dec.{T, eqb, ltb};
 ghost use Rattle.task.specs.Facts.{allOn};
 ghost use Rattle.task.specs.Task.{applies};
+ghost use Rattle.task.specs.Reach.{member};
 ghost use Rattle.meaning.specs.Sets.{allBelow, someBelow};
 ghost use Rattle.certificate.specs.Rows.{byRows, stateIn, InOrder};
 ghost use Rattle.leaves.specs.Leaves.{leafIn, leavesIn};
-ghost use Rattle.leaves.specs.Holds.{Orderly};
+ghost use Rattle.leaves.specs.Holds.{statesAt, Orderly};
 ghost use Rattle.leaves.specs.Lists.{Each, Countered};
 ghost use Rattle.listed.specs.Listed.{Anchored};
-ghost use Rattle.listed.specs.Search.{Readable, StatesAfter, Different, Closed, topOf, Passed, OneInitial, holdsOne, showsIn};
+ghost use Rattle.listed.specs.Search.{Readable, StatesAfter, Different, Closed, Led, Passed, OneLess, OneInitial, Split, holdsOne, showsIn};
 
 // Whether a leaf holds s, or t where it is asked about the state after the action.
 fn holds_one(file: &[u8], index: &Index, ends: Ends, x: Leaf, s: u64, t: u64) -> bool
@@ -242,45 +243,128 @@ fn one_shows(
     false
 }
 
-// The first initial state, from d = `from` on, in which the action applies and does not lead into listed states; or the last one, which is
-// not looked at. The initial states are top - d, for every d within the unknown facts: they ascend as d goes down. What the action leads to
-// is looked for behind what was found last.
-fn first_initial(
+// Which of listed states a state is, as `search` tells, and 0 where no state is listed. Mostly it is the one that is guessed.
+fn place_in(file: &[u8], index: &Index, into: Span, rows: bool, guess: usize, s: u64) -> usize
+    requires { ⌜ (rows ≡ byRows (now index)) × (0 < into .count → InOrder (now file) (now index) into) ⌝ }
+    ensures { λ k. ⌜ ltb k (into .count) ≡ member s (statesAt (now (file .entry)) (into .at) (into .count)) ⌝ }
+{
+    let many = into.count as usize;
+    if many == 0 {
+        return 0;
+    }
+    if guess < many {
+        if state_in(file, index, into, rows, guess) == s {
+            return guess;
+        }
+    }
+    search(file, index, into, rows, guess, s)
+}
+
+// Whether one of the states s - e does, for the masks e within a mask.
+fn some_shows(
     file: &[u8],
     index: &Index,
     ends: Ends,
+    left: &[u64],
+    m: usize,
+    right: &[u64],
+    r: usize,
+    anchor: usize,
+    a: Action,
+    s: u64,
+    mask: u64,
+) -> bool
+    requires { ⌜ Readable (now file) (now index) (now left) m × Readable (now file) (now index) (now right) r ⌝ }
+    requires { ⌜ T (allOn mask s) ⌝ }
+    ensures { λ b. ⌜ T b ↔ OneLess s mask (showsIn (now (file .entry)) ends a (now (left .entry)) m (now (right .entry)) r anchor) ⌝ }
+{
+    let mut e = mask;
+    loop {
+        if shows_in(file, index, ends, left, m, right, r, anchor, a, s - e) {
+            return true;
+        }
+        if e == 0 {
+            return false;
+        }
+        e = (e - 1) & mask;
+    }
+}
+
+// The first of the states top - d, for the masks d within a mask from `from` down, from which the action does not lead into listed states; or
+// the last one, top, which is not looked at. They ascend as d goes down, so what the action leads to is looked for behind what was found
+// last.
+fn first_unled(
+    file: &[u8],
+    index: &Index,
+    top: u64,
+    mask: u64,
     from: u64,
     into: Span,
     rows: bool,
     a: Action,
 ) -> u64
-    requires { ⌜ (rows ≡ byRows (now index)) × T (allOn from (ends .unknown)) × (0 < into .count → InOrder (now file) (now index) into) ⌝ }
-    requires { ⌜ bitAnd (a .pre) (a .off) ≡ 0 ⌝ }
-    ensures { λ r. ⌜ T (allOn r (ends .unknown)) × (r ≤ from) × Passed (topOf ends) (ends .unknown) (Closed (now (file .entry)) into a) from r ⌝ }
+    requires { ⌜ (rows ≡ byRows (now index)) × (0 < into .count → InOrder (now file) (now index) into) × T (allOn from mask) × T (allOn mask top) ⌝ }
+    ensures { λ r. ⌜ T (allOn r mask) × (r ≤ from) × Passed top mask (Led (now (file .entry)) into a) from r ⌝ }
 {
     let many = into.count as usize;
     if many == 0 {
         return from;
     }
-    let unknown = ends.unknown;
-    let top = ends.init | unknown;
     let mut near: usize = 0;
     let mut d = from;
     while d != 0 {
-        let s = top - d;
-        if applies_at_once(a, s) {
-            let k = search(file, index, into, rows, near, after(a, s));
-            if many <= k {
-                return d;
-            }
-            near = k + 1;
+        let k = place_in(file, index, into, rows, near, after(a, top - d));
+        if many <= k {
+            return d;
         }
-        d = (d - 1) & unknown;
+        near = k + 1;
+        d = (d - 1) & mask;
     }
     d
 }
 
-// Whether one of the initial states does. One from which the action leads into the first right leaf does not.
+// Whether one of the initial states does, where the action applies in `top`. They are tried as top - d - e, for the masks d of facts that it
+// keeps and e of facts that it changes: whatever e is, it leads to the same state, and where that is one of the first right leaf, none of
+// them does.
+fn tried_show(
+    file: &[u8],
+    index: &Index,
+    ends: Ends,
+    left: &[u64],
+    m: usize,
+    right: &[u64],
+    r: usize,
+    anchor: usize,
+    a: Action,
+    top: u64,
+    kept: u64,
+    changed: u64,
+) -> bool
+    requires { ⌜ Readable (now file) (now index) (now left) m × Readable (now file) (now index) (now right) r ⌝ }
+    requires { ⌜ Split ends a top kept changed ⌝ }
+    ensures { λ b. ⌜ T b ↔ OneInitial ends (showsIn (now (file .entry)) ends a (now (left .entry)) m (now (right .entry)) r anchor) ⌝ }
+{
+    let rows = by_rows(index);
+    let into = states_after(right, r, a);
+    let many = into.count as usize;
+    let mut d = kept;
+    loop {
+        d = first_unled(file, index, top, kept, d, into, rows, a);
+        let s = top - d;
+        if many <= place_in(file, index, into, rows, 0, after(a, s)) {
+            if some_shows(file, index, ends, left, m, right, r, anchor, a, s, changed) {
+                return true;
+            }
+        }
+        if d == 0 {
+            return false;
+        }
+        d = (d - 1) & kept;
+    }
+}
+
+// Whether one of the initial states does. Where the action applies in none of them, as `top` tells, none does; else the unknown facts that it
+// needs are known.
 fn initial_shows(
     file: &[u8],
     index: &Index,
@@ -293,24 +377,30 @@ fn initial_shows(
     a: Action,
 ) -> bool
     requires { ⌜ Readable (now file) (now index) (now left) m × Readable (now file) (now index) (now right) r ⌝ }
-    requires { ⌜ bitAnd (a .pre) (a .off) ≡ 0 ⌝ }
     ensures { λ b. ⌜ T b ↔ OneInitial ends (showsIn (now (file .entry)) ends a (now (left .entry)) m (now (right .entry)) r anchor) ⌝ }
 {
-    let rows = by_rows(index);
-    let into = states_after(right, r, a);
     let unknown = ends.unknown;
-    let top = ends.init | unknown;
-    let mut d = unknown;
-    loop {
-        d = first_initial(file, index, ends, d, into, rows, a);
-        if shows_in(file, index, ends, left, m, right, r, anchor, a, top - d) {
-            return true;
-        }
-        if d == 0 {
-            return false;
-        }
-        d = (d - 1) & unknown;
+    let top = (ends.init | unknown) & !(a.off & unknown);
+    if !applies(a, top) {
+        return false;
     }
+    let free = unknown & !(a.pre | a.off);
+    let changed = free & (a.add | a.del);
+    let kept = free & !(a.add | a.del);
+    tried_show(
+        file,
+        index,
+        ends,
+        left,
+        m,
+        right,
+        r,
+        anchor,
+        a,
+        top,
+        kept,
+        changed,
+    )
 }
 
 // Whether an action in a state of the anchor, a left leaf that lists its states, makes the statement untrue. One that needs a fact both on

@@ -59,7 +59,7 @@ less-is : (s c : ℕ) → T (allOn c s) → without s c ≡ s - c
 unfolding without
 less-is s c h = ap (λ (x : ℕ). s - x) (all-on-and c s h)
 
-bit-less : (f s c : ℕ) → T (allOn c s) → bit f (s - c) ≡ min (bit f s) (1 - bit f c)
+pub bit-less : (f s c : ℕ) → T (allOn c s) → bit f (s - c) ≡ min (bit f s) (1 - bit f c)
 bit-less f s c h = ap (bit f) (sym (less-is s c h)) ∙ bit-without f s c
 
 -- ---- the initial states

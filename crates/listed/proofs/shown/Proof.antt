@@ -38,9 +38,7 @@ never c y e n = let p = start c .pre .0 in shown-never _ _ _ _ _ _ _ _ (p .0) (p
 
 initial-shows-requires : tie.Need-initial-shows-requires
 initial-shows-requires c κs =
-    let v = c .before .before in
-    let p = start v .pre in
-    (((p .0 .0, p .1 .0), (p .0 .1, p .1 .1)), v .before .if1 .left)
+    let p = start (c .before .before) .pre in ((p .0 .0, p .1 .0), (p .0 .1, p .1 .1))
 
 -- the anchor's states are in order
 in-order : (c : tie.After-set) → let a = start (c .before .before) .args in InOrder (a .file .now) (a .index .now) (c .set .given .0 .0)

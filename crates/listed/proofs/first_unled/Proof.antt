@@ -1,0 +1,81 @@
+-- `listed::first_unled` meets its contract. The invariant: the action leads from each state that was passed into the listed ones.
+-- Assumes nothing.
+use Prim.Native.Nat.{ℕ, _-_, _≤_}
+use mathlib.Core.Path.{sym, _∙_}
+use native.Mathlib.Nat.{le-refl}
+use native.Mathlib.Omega.{arith}
+use lib.Dec.{T, ltb, lt→ltb}
+use borrow.Author.Needs.{needs}
+use Rattle.task.specs.Facts.{allOn}
+use Rattle.task.proofs.Tests.{is-true}
+use Rattle.task.proofs.Submasks.{below-within, below-less}
+use Rattle.listed.specs.Search.{Led, Passed}
+use Rattle.listed.proofs.InitialLaws.{less-le, none-passed, passed-next}
+use Rattle.listed.proofs.first_unled.Statement.{statement}
+use Rattle.listed.proofs.first_unled.Tie as tie
+
+abbrev Inv-loop : tie.InvT-loop
+Inv-loop file index top mask from into rows a many near₀ d₀ near d =
+    T (allOn d mask) × (d ≤ from) × Passed top mask (Led file into a) from d
+
+abbrev μ-loop : tie.MeasureT-loop
+μ-loop file index top mask from into rows a many near₀ d₀ near d = d
+
+-- the action leads from a state into the listed ones
+abbrev IsLed : tie.Start Inv-loop μ-loop → ℕ → Type 0
+IsLed c = let a = c .args in Led (a .file .now) (a .into) (a .a)
+
+returns : tie.Need-returns Inv-loop μ-loop
+returns c = let s = c .before .before .before in (s .pre .2, le-refl _, none-passed _ _ (IsLed s) _)
+
+loop-holds : tie.Need-loop-holds Inv-loop μ-loop
+loop-holds c = let s = c .before .before .before in (s .pre .2, le-refl _, none-passed _ _ (IsLed s) _)
+
+sub-after : tie.Need-sub-after Inv-loop μ-loop
+sub-after c = less-le _ _ _ (c .before .loop .inv .0) (c .before .before .before .before .before .pre .3)
+
+place-in-requires : tie.Need-place-in-requires Inv-loop μ-loop
+place-in-requires c κs = let p = c .before .before .before .before .before .before .pre in (p .0, p .1)
+
+returns-2 : tie.Need-returns-2 Inv-loop μ-loop
+returns-2 c = c .before .before .before .before .loop .inv
+
+-- a turn that goes on finds what its state leads to
+turned : (c : tie.Else2 Inv-loop μ-loop) → let s = c .before .before .before .before .before .before .before .before in
+    IsLed s (s .args .top - c .before .before .before .before .loop .d)
+turned c =
+    let k : ℕ = c .before .place-in .result in
+    let n : ℕ = c .before .before .before .before .before .before .before .before .args .into .count in
+    rw (c .before .before .after .ensures) at
+    (sym (c .before .place-in .ensures) ∙ is-true (ltb k n) (lt→ltb k n (omega (arith, c .if2 .left))))
+
+loop-less : tie.Need-loop-less Inv-loop μ-loop
+loop-less c = below-less _ _ (omega (arith, c .before .before .before .loop-test .taken))
+
+loop-again : tie.Need-loop-again Inv-loop μ-loop
+loop-again c =
+    let v = c .before .before .before .before .loop in
+    let s = c .before .before .before .before .before .before .before .before in (
+      below-within (s .args .mask) (v .d),
+      omega (arith, v .inv .1, loop-less c),
+      passed-next _ _ (IsLed s) _ (v .d) (v .inv .0) (v .inv .2) (turned c),
+    )
+
+pub first-unled-spec : {M : Type 1} → statement M
+first-unled-spec =
+    tie.close
+    (tie.spec
+    Inv-loop
+    μ-loop
+    (λ c. search needs)
+    returns
+    loop-holds
+    sub-after
+    (λ c κs. search needs)
+    place-in-requires
+    returns-2
+    (λ c. search needs)
+    (λ c. search needs)
+    loop-less
+    loop-again
+    (λ c. c .before .loop .inv))
