@@ -29,7 +29,8 @@ ghost use Rattle.leaves.specs.Leaves.{leafIn, leavesIn};
 ghost use Rattle.leaves.specs.Holds.{statesAt, Orderly};
 ghost use Rattle.leaves.specs.Lists.{Each, Countered};
 ghost use Rattle.listed.specs.Listed.{Anchored};
-ghost use Rattle.listed.specs.Search.{Readable, StatesAfter, Different, Closed, Led, Passed, OneLess, OneInitial, Split, holdsOne, showsIn};
+ghost use Rattle.listed.specs.Search.{Readable, StatesAfter, Different, Closed, holdsOne, showsIn};
+ghost use Rattle.listed.specs.Search.{Led, Passed, OneLess, OneInitial, Split};
 
 // Whether a leaf holds s, or t where it is asked about the state after the action.
 fn holds_one(file: &[u8], index: &Index, ends: Ends, x: Leaf, s: u64, t: u64) -> bool
@@ -243,21 +244,28 @@ fn one_shows(
     false
 }
 
-// Which of listed states a state is, as `search` tells, and 0 where no state is listed. Mostly it is the one that is guessed.
-fn place_in(file: &[u8], index: &Index, into: Span, rows: bool, guess: usize, s: u64) -> usize
+// Whether a state is the k-th of listed states, by size.
+fn is_at(file: &[u8], index: &Index, x: Span, rows: bool, k: usize, s: u64) -> bool
+    requires { ⌜ InOrder (now file) (now index) x × (rows ≡ byRows (now index)) ⌝ }
+    ensures { λ b. ⌜ (T b → (k < x .count) × (stateIn (now (file .entry)) (now (index .entry)) x k ≡ s)) ⌝ }
+{
+    let many = x.count as usize;
+    if many <= k {
+        return false;
+    }
+    state_in(file, index, x, rows, k) == s
+}
+
+// Whether the action leads from s to one of listed states.
+fn leads(file: &[u8], index: &Index, into: Span, rows: bool, a: Action, s: u64) -> bool
     requires { ⌜ (rows ≡ byRows (now index)) × (0 < into .count → InOrder (now file) (now index) into) ⌝ }
-    ensures { λ k. ⌜ ltb k (into .count) ≡ member s (statesAt (now (file .entry)) (into .at) (into .count)) ⌝ }
+    ensures { λ b. ⌜ (T b → Led (now (file .entry)) into a s) ⌝ }
 {
     let many = into.count as usize;
     if many == 0 {
-        return 0;
+        return false;
     }
-    if guess < many {
-        if state_in(file, index, into, rows, guess) == s {
-            return guess;
-        }
-    }
-    search(file, index, into, rows, guess, s)
+    search(file, index, into, rows, 0, after(a, s)) < many
 }
 
 // Whether one of the states s - e does, for the masks e within a mask.
@@ -290,9 +298,9 @@ fn some_shows(
     }
 }
 
-// The first of the states top - d, for the masks d within a mask from `from` down, from which the action does not lead into listed states; or
-// the last one, top, which is not looked at. They ascend as d goes down, so what the action leads to is looked for behind what was found
-// last.
+// The first of the states top - d, for the masks d within a mask from `from` down, from which the action does not lead into listed states;
+// or the last one, top, which is not looked at. They ascend as d goes down, so what the action leads to is looked for behind what was found
+// last, and mostly stands next to it.
 fn first_unled(
     file: &[u8],
     index: &Index,
@@ -313,19 +321,24 @@ fn first_unled(
     let mut near: usize = 0;
     let mut d = from;
     while d != 0 {
-        let k = place_in(file, index, into, rows, near, after(a, top - d));
-        if many <= k {
-            return d;
+        let t = after(a, top - d);
+        if is_at(file, index, into, rows, near, t) {
+            near += 1;
+        } else {
+            let k = search(file, index, into, rows, near, t);
+            if many <= k {
+                return d;
+            }
+            near = k + 1;
         }
-        near = k + 1;
         d = (d - 1) & mask;
     }
     d
 }
 
-// Whether one of the initial states does, where the action applies in `top`. They are tried as top - d - e, for the masks d of facts that it
-// keeps and e of facts that it changes: whatever e is, it leads to the same state, and where that is one of the first right leaf, none of
-// them does.
+// Whether one of the initial states does, where the action applies in `top`. They are tried as top - d - e, for the masks d of facts that
+// it keeps and e of facts that it changes: whatever e is, it leads to the same state, and where that is one of the first right leaf, none
+// of them does.
 fn tried_show(
     file: &[u8],
     index: &Index,
@@ -346,12 +359,11 @@ fn tried_show(
 {
     let rows = by_rows(index);
     let into = states_after(right, r, a);
-    let many = into.count as usize;
     let mut d = kept;
     loop {
         d = first_unled(file, index, top, kept, d, into, rows, a);
         let s = top - d;
-        if many <= place_in(file, index, into, rows, 0, after(a, s)) {
+        if !leads(file, index, into, rows, a, s) {
             if some_shows(file, index, ends, left, m, right, r, anchor, a, s, changed) {
                 return true;
             }
@@ -363,8 +375,8 @@ fn tried_show(
     }
 }
 
-// Whether one of the initial states does. Where the action applies in none of them, as `top` tells, none does; else the unknown facts that it
-// needs are known.
+// Whether one of the initial states does. Where the action applies in none of them, as `top` tells, none does; else the unknown facts that
+// it needs are known.
 fn initial_shows(
     file: &[u8],
     index: &Index,

@@ -1,15 +1,15 @@
 -- `listed::tried_show` meets its contract. The invariant: of the states that were passed, none shows it, whatever facts it changes are on.
 -- Assumes nothing.
 use Prim.Native.Nat.{ℕ, _-_, _<_}
-use mathlib.Core.Path.{_≡_, subst, sym, _∙_}
+use mathlib.Core.Path.{_≡_, subst, sym}
 use mathlib.Core.Logic.{inl, inr}
 use mathlib.Core.Bool.{Bool, false}
 use native.Mathlib.Omega.{arith}
-use lib.Dec.{T, ltb, lt→ltb}
+use lib.Dec.{T}
 use borrow.Author.Needs.{needs}
+use borrow.Author.Tests.{not-false}
 use Rattle.task.specs.Facts.{allOn}
-use Rattle.task.specs.Task.{after}
-use Rattle.task.proofs.Tests.{holds, is-true, is-false}
+use Rattle.task.proofs.Tests.{holds, is-false}
 use Rattle.task.proofs.Submasks.{below-within, below-less}
 use Rattle.certificate.specs.Rows.{InOrder}
 use Rattle.listed.specs.Search.{Led, Passed, Split, showsIn}
@@ -20,12 +20,12 @@ use Rattle.listed.proofs.tried_show.Statement.{statement}
 use Rattle.listed.proofs.tried_show.Tie as tie
 
 abbrev Inv-loop : tie.InvT-loop
-Inv-loop file index ends left m right r anchor a top kept changed rows into many d₀ d =
+Inv-loop file index ends left m right r anchor a top kept changed rows into d₀ d =
     Passed top kept (λ s. (e : ℕ) → T (allOn e changed) → showsIn file ends a left m right r anchor (s - e) ≡ false) kept d
     × T (allOn d kept)
 
 abbrev μ-loop : tie.MeasureT-loop
-μ-loop file index ends left m right r anchor a top kept changed rows into many d₀ d = d
+μ-loop file index ends left m right r anchor a top kept changed rows into d₀ d = d
 
 -- a state shows it; and none of those that differ from s in changed facts does
 abbrev Shows : tie.Start Inv-loop μ-loop → ℕ → Bool
@@ -42,7 +42,7 @@ abbrev start : tie.After-states-after Inv-loop μ-loop → tie.Start Inv-loop μ
 start c = c .before .before .before .before .before
 
 abbrev into : tie.After-first-unled Inv-loop μ-loop → tie.After-states-after Inv-loop μ-loop
-into c = c .before .before .before
+into c = c .before .before
 
 states-after-requires : tie.Need-states-after-requires Inv-loop μ-loop
 states-after-requires c κs = c .before .before .before .before .pre .0 .1 .0
@@ -53,11 +53,11 @@ ordered : (c : tie.After-states-after Inv-loop μ-loop) → let a = start c .arg
 ordered c = let s = start c in some-ordered _ _ _ (s .args .a) _ _ (s .pre .0 .1) (c .states-after .ensures)
 
 loop-holds : tie.Need-loop-holds Inv-loop μ-loop
-loop-holds c = (none-passed _ _ (Silent (start (c .before))) _, self-within _)
+loop-holds c = (none-passed _ _ (Silent (start c)) _, self-within _)
 
 first-unled-requires : tie.Need-first-unled-requires Inv-loop μ-loop
 first-unled-requires c κs =
-    let v = c .before .before in
+    let v = c .before in
     let s = start v in
     (v .before .by-rows .ensures, ordered v, c .loop .inv .1, kept-within (s .args .ends) (s .args .a) _ _ _ (split s))
 
@@ -65,12 +65,12 @@ sub-s : tie.Need-sub-s Inv-loop μ-loop
 sub-s c =
     let s = start (into c) in less-le _ _ _ (c .first-unled .ensures .0) (kept-within (s .args .ends) (s .args .a) _ _ _ (split s))
 
-place-in-requires : tie.Need-place-in-requires Inv-loop μ-loop
-place-in-requires c κs = let v = into (c .before) in (v .before .by-rows .ensures, ordered v)
+leads-requires : tie.Need-leads-requires Inv-loop μ-loop
+leads-requires c κs = let v = into c in (v .before .by-rows .ensures, ordered v)
 
 some-shows-requires : tie.Need-some-shows-requires Inv-loop μ-loop
 some-shows-requires c κs =
-    let v = c .before .before .before in
+    let v = c .before .before in
     let s = start (into v) in
     (s .pre .0, changed-within (s .args .ends) (s .args .a) _ _ _ (split s) _ (v .first-unled .ensures .0))
 
@@ -90,29 +90,25 @@ passed c =
     (λ d k l m. led-silent c d k (c .first-unled .ensures .2 d k l m))
 
 -- nor does that one, where the turn goes on
-turned : (c : tie.Joined1 Inv-loop μ-loop) → let v = c .before .before .before in
+turned : (c : tie.Joined1 Inv-loop μ-loop) → let v = c .before .before in
     Silent (start (into v)) (start (into v) .args .top - v .first-unled .result)
 turned c =
-    let v = c .before .before .before in
     elim (c .if1 .came) [
       | inl t ↦ (λ e w. is-false _ (λ h. subst T (t .2 .left) (t .1 .ensures .1 (e, w, h))))
-      | inr t ↦
-          let k : ℕ = c .before .place-in .result in
-          let n : ℕ = into v .states-after .result .count in
-          led-silent v _ (v .first-unled .ensures .0) (rw (c .before .before .after .ensures) at
-          (sym (c .before .place-in .ensures) ∙ is-true (ltb k n) (lt→ltb k n (omega (arith, t .left)))))
+      | inr t ↦ let v = c .before .before in
+          led-silent v _ (v .first-unled .ensures .0) (c .before .leads .ensures (holds (not-false (c .before .leads .result) (t .left))))
     ]
 
 returns : tie.Need-returns Inv-loop μ-loop
 returns c =
-    let v = c .before .before .before .before .before in
+    let v = c .before .before .before .before in
     let s = start (into v) in
     let (e, w, h) = c .before .some-shows .ensures .0 (holds (c .if2 .taken)) in
     ((λ _. (_, tried-initial (s .args .ends) (s .args .a) _ _ _ (split s) _ (v .first-unled .ensures .0) e w, h)), (λ _. tt))
 
 returns-2 : tie.Need-returns-2 Inv-loop μ-loop
 returns-2 c =
-    let v = c .before .before .before .before in
+    let v = c .before .before .before in
     let s = start (into v) in
     let none = passed-each _ _ (Silent s) _ (c .if3 .taken) (passed v) (turned (c .before)) in (
       (λ x. absurd x),
@@ -123,13 +119,13 @@ returns-2 c =
 
 loop-less : tie.Need-loop-less Inv-loop μ-loop
 loop-less c =
-    let v = c .before .before .before .before in
+    let v = c .before .before .before in
     let u : ℕ = start (into v) .args .kept in
     omega (arith, below-less u (v .first-unled .result) (omega (arith, c .if3 .left)), v .first-unled .ensures .1)
 
 loop-again : tie.Need-loop-again Inv-loop μ-loop
 loop-again c =
-    let v = c .before .before .before .before in
+    let v = c .before .before .before in
     let s = start (into v) in
     let d : ℕ = v .first-unled .result in
     (passed-next _ _ (Silent s) _ d (v .first-unled .ensures .0) (passed v) (turned (c .before)), below-within (s .args .kept) d)
@@ -142,12 +138,10 @@ tried-show-spec =
     μ-loop
     (λ c κs. search needs)
     states-after-requires
-    (λ c. search needs)
     loop-holds
     first-unled-requires
     sub-s
-    (λ c κs. search needs)
-    place-in-requires
+    leads-requires
     some-shows-requires
     returns
     returns-2
