@@ -5,6 +5,7 @@ use mathlib.Core.Path.{_≡_, subst, sym, ap, ap₂, _∙_}
 use Prim.Native.Nat.{ℕ, _+_, _-_, _^_, _≤_, _<_, min, max}
 use native.Mathlib.Omega.{arith}
 use native.Mathlib.Decide.{decLt}
+use native.Mathlib.Nat.{lt-of-le-of-lt}
 use lib.Bits.{bitAnd, bitOr, and-le-l, or-lt}
 use lib.Dec.{T, eqb→eq}
 use Rattle.task.specs.declared.Action.{Action}
@@ -12,11 +13,11 @@ use Rattle.task.specs.declared.Ends.{Ends}
 use Rattle.task.specs.Facts.{allOn, without}
 use Rattle.task.specs.Task.{applies, after}
 use Rattle.task.specs.Inner.{bit, atInit}
-use Rattle.task.proofs.Bits.{bit-le, bit-and, bit-or, bit-without, without-and, same-bits, all-on-at, all-on-of}
+use Rattle.task.proofs.Bits.{bit-le, bit-and, bit-or, bit-without, without-and, without-lt, same-bits, all-on-at, all-on-of}
 use Rattle.task.proofs.Bits.{add-wins, del-last, fact-stays}
 use Rattle.task.proofs.Names.{at-init-facts, at-init-of, applies-facts, applies-of}
 use Rattle.task.proofs.Submasks.{below-next, bit-less, init-to}
-use Rattle.listed.specs.Search.{Passed, Split}
+use Rattle.listed.specs.Search.{Passed, unneeded, Split}
 
 -- ---- from one mask to the next
 
@@ -27,7 +28,7 @@ within-le : (d u : ℕ) → T (allOn d u) → d ≤ u
 unfolding allOn
 within-le d u h = omega (arith, eqb→eq (bitAnd u d) d h, and-le-l u d)
 
-pub within-within : (d u s : ℕ) → T (allOn d u) → T (allOn u s) → T (allOn d s)
+within-within : (d u s : ℕ) → T (allOn d u) → T (allOn u s) → T (allOn d s)
 within-within d u s h k = all-on-of d s (λ f. omega (arith, all-on-at d u h f, all-on-at u s k f))
 
 pub less-le : (d u s : ℕ) → T (allOn d u) → T (allOn u s) → d ≤ s
@@ -81,72 +82,88 @@ after-same a s t f h =
       ]
     ]
 
--- ---- the masks, as the code works them out
+-- ---- the masks
 
-cleared : (f x y : ℕ) → x < 2 ^ 64 → y < 2 ^ 64 → bit f (bitAnd x (2 ^ 64 - 1 - y)) ≡ min (bit f x) (1 - bit f y)
-cleared f x y h l = ap (bit f) (without-and 64 x y h l) ∙ bit-without f x y
-
-and-low : (x y : ℕ) → x < 2 ^ 64 → bitAnd x y < 2 ^ 64
-and-low x y h = omega (arith, and-le-l x y)
-
+-- as the code works them out
 module _ (ends : Ends) (a : Action) (i : ends .init < 2 ^ 64) (u : ends .unknown < 2 ^ 64) (p : a .pre < 2 ^ 64) (o : a .off < 2 ^ 64)
     (ad : a .add < 2 ^ 64) (de : a .del < 2 ^ 64) where
-  abbrev start : ℕ
-  start = bitOr (ends .init) (ends .unknown)
-
-  abbrev none : ℕ
-  none = bitAnd (a .off) (ends .unknown)
-
   abbrev needed : ℕ
   needed = bitOr (a .pre) (a .off)
 
   abbrev effects : ℕ
   effects = bitOr (a .add) (a .del)
 
-  abbrev free : ℕ
-  free = bitAnd (ends .unknown) (2 ^ 64 - 1 - needed)
+  unneeded-code : bitAnd (ends .unknown) (2 ^ 64 - 1 - needed) ≡ unneeded ends a
+  unneeded-code = without-and 64 (ends .unknown) needed u (or-lt 64 (a .pre) (a .off) p o)
 
-  module _ (f : ℕ) where
-    bit-top : bit f (bitAnd start (2 ^ 64 - 1 - none))
-        ≡ min (max (bit f (ends .init)) (bit f (ends .unknown))) (1 - min (bit f (a .off)) (bit f (ends .unknown)))
-    bit-top =
-        cleared f start none (or-lt 64 (ends .init) (ends .unknown) i u) (and-low (a .off) (ends .unknown) o)
-        ∙ ap₂ (λ (x y : ℕ). min x (1 - y)) (bit-or f (ends .init) (ends .unknown)) (bit-and f (a .off) (ends .unknown))
+  pub split-code : Split ends a (bitAnd (bitOr (ends .init) (ends .unknown)) (2 ^ 64 - 1 - bitAnd (a .off) (ends .unknown)))
+      (bitAnd (bitAnd (ends .unknown) (2 ^ 64 - 1 - needed)) (2 ^ 64 - 1 - effects))
+      (bitAnd (bitAnd (ends .unknown) (2 ^ 64 - 1 - needed)) effects)
+  split-code = (
+    without-and 64 (bitOr (ends .init) (ends .unknown)) (bitAnd (a .off) (ends .unknown)) (or-lt 64 (ends .init) (ends .unknown) i u)
+        (lt-of-le-of-lt (and-le-l (a .off) (ends .unknown)) o),
+    ap (λ (x : ℕ). bitAnd x (2 ^ 64 - 1 - effects)) unneeded-code
+        ∙ without-and 64 (unneeded ends a) effects (without-lt 64 (ends .unknown) needed u) (or-lt 64 (a .add) (a .del) ad de),
+    ap (λ (x : ℕ). bitAnd x effects) unneeded-code,
+  )
 
-    bit-free : bit f free ≡ min (bit f (ends .unknown)) (1 - max (bit f (a .pre)) (bit f (a .off)))
-    bit-free =
-        cleared f (ends .unknown) needed u (or-lt 64 (a .pre) (a .off) p o)
-        ∙ ap (λ (x : ℕ). min (bit f (ends .unknown)) (1 - x)) (bit-or f (a .pre) (a .off))
+-- fact by fact: an unknown fact is on in top or needed off, one that is known is as it is in the start; and an unknown fact is kept,
+-- changed or needed
+abbrev Parted : Ends → Action → ℕ → ℕ → ℕ → ℕ → Type 0
+Parted ends a top kept changed f =
+    (bit f (ends .init) ≤ bit f top + bit f (ends .unknown)) × (bit f top ≤ bit f (ends .init) + bit f (ends .unknown))
+    × (bit f (ends .unknown) ≤ bit f top + bit f (a .off)) × (bit f (ends .unknown) + (bit f top + bit f (a .off)) ≤ 2)
+    × (bit f kept + bit f changed ≤ bit f (ends .unknown))
+    × (bit f (ends .unknown) ≤ bit f kept + bit f changed + (bit f (a .pre) + bit f (a .off)))
+    × (bit f kept + bit f changed + bit f (a .pre) ≤ 1) × (bit f kept + bit f changed + bit f (a .off) ≤ 1)
+    × (bit f changed ≤ bit f (a .add) + bit f (a .del))
 
-    bit-kept-free : bit f (bitAnd free (2 ^ 64 - 1 - effects)) ≡ min (bit f free) (1 - bit f effects)
-    bit-kept-free = cleared f free effects (and-low (ends .unknown) _ u) (or-lt 64 (a .add) (a .del) ad de)
+module _ (ends : Ends) (a : Action) (top kept changed : ℕ) (split : Split ends a top kept changed) (f : ℕ) where
+  bit-top : bit f top ≡ min (max (bit f (ends .init)) (bit f (ends .unknown))) (1 - min (bit f (a .off)) (bit f (ends .unknown)))
+  bit-top =
+      ap (bit f) (split .0)
+      ∙ bit-without f (bitOr (ends .init) (ends .unknown)) (bitAnd (a .off) (ends .unknown))
+      ∙ ap₂ (λ (x y : ℕ). min x (1 - y)) (bit-or f (ends .init) (ends .unknown)) (bit-and f (a .off) (ends .unknown))
 
-    apart : bit f (bitAnd free (2 ^ 64 - 1 - effects)) + bit f (bitAnd free effects) ≡ bit f free
-    apart = omega (arith, bit-kept-free, bit-and f free effects, bit-le f free, bit-le f effects)
+  bit-unneeded : bit f (unneeded ends a) ≡ min (bit f (ends .unknown)) (1 - max (bit f (a .pre)) (bit f (a .off)))
+  bit-unneeded =
+      bit-without f (ends .unknown) (bitOr (a .pre) (a .off))
+      ∙ ap (λ (x : ℕ). min (bit f (ends .unknown)) (1 - x)) (bit-or f (a .pre) (a .off))
 
-  pub split-code : Split ends a (bitAnd start (2 ^ 64 - 1 - none)) (bitAnd free (2 ^ 64 - 1 - effects)) (bitAnd free effects)
-  split-code f = (
-    omega (arith, bit-top f, bit-le f (ends .init)),
-    omega (arith, bit-top f),
-    omega (arith, bit-top f, bit-le f (ends .unknown)),
-    omega (arith, bit-top f, bit-le f (ends .unknown), bit-le f (a .off)),
-    omega (arith, apart f, bit-free f),
-    omega (arith, apart f, bit-free f, bit-le f (ends .unknown)),
-    omega (arith, apart f, bit-free f, bit-le f (a .pre)),
-    omega (arith, apart f, bit-free f, bit-le f (a .off)),
-    omega (arith, bit-and f free effects, bit-or f (a .add) (a .del)),
+  bit-changed : bit f changed ≡ min (bit f (unneeded ends a)) (bit f (bitOr (a .add) (a .del)))
+  bit-changed = ap (bit f) (split .2) ∙ bit-and f (unneeded ends a) (bitOr (a .add) (a .del))
+
+  apart : bit f kept + bit f changed ≡ bit f (unneeded ends a)
+  apart =
+      let e = ap (bit f) (split .1) ∙ bit-without f (unneeded ends a) (bitOr (a .add) (a .del)) in
+      omega (arith, bit-changed, bit-le f (unneeded ends a), bit-le f (bitOr (a .add) (a .del)))
+
+  parted : Parted ends a top kept changed f
+  parted = (
+    omega (arith, bit-top, bit-le f (ends .init)),
+    omega (arith, bit-top),
+    omega (arith, bit-top, bit-le f (ends .unknown)),
+    omega (arith, bit-top, bit-le f (ends .unknown), bit-le f (a .off)),
+    omega (arith, apart, bit-unneeded),
+    omega (arith, apart, bit-unneeded, bit-le f (ends .unknown)),
+    omega (arith, apart, bit-unneeded, bit-le f (a .pre)),
+    omega (arith, apart, bit-unneeded, bit-le f (a .off)),
+    omega (arith, bit-changed, bit-or f (a .add) (a .del)),
   )
 
 -- ---- the states that are tried
 
 module _ (ends : Ends) (a : Action) (top kept changed : ℕ) (split : Split ends a top kept changed) where
+  facts : (f : ℕ) → Parted ends a top kept changed f
+  facts = parted ends a top kept changed split
+
   pub kept-within : T (allOn kept top)
-  kept-within = all-on-of kept top (λ f. let (i, j, k, l, m, n, o, p, q) = split f in omega arith)
+  kept-within = all-on-of kept top (λ f. let (i, j, k, l, m, n, o, p, q) = facts f in omega arith)
 
   pub top-applies : (s : ℕ) → T (atInit ends s) → T (applies a s) → T (applies a top)
   top-applies s i h =
       applies-of a top (λ f.
-      let (j, k, l, m, n, o, p, q, r) = split f in
+      let (j, k, l, m, n, o, p, q, r) = facts f in
       let (t, u) = applies-facts a s h f in
       elim (decLt 0 (bit f (ends .unknown))) [
         | yes z ↦ (omega (arith, bit-le f s), omega arith)
@@ -160,7 +177,7 @@ module _ (ends : Ends) (a : Action) (top kept changed : ℕ) (split : Split ends
     pub changed-within : T (allOn changed (top - d))
     changed-within =
         all-on-of changed (top - d) (λ f.
-        let (i, j, k, l, m, n, o, p, q) = split f in omega (arith, bit-kept f, all-on-at d kept h f))
+        let (i, j, k, l, m, n, o, p, q) = facts f in omega (arith, bit-kept f, all-on-at d kept h f))
 
     module _ (e : ℕ) (k : T (allOn e changed)) where
       bit-tried : (f : ℕ) → bit f (top - d - e) + bit f e ≡ bit f (top - d)
@@ -169,13 +186,13 @@ module _ (ends : Ends) (a : Action) (top kept changed : ℕ) (split : Split ends
       pub tried-initial : T (atInit ends (top - d - e))
       tried-initial =
           at-init-of ends (top - d - e) (λ f z.
-          let (i, j, l, m, n, o, p, q, r) = split f in
+          let (i, j, l, m, n, o, p, q, r) = facts f in
           omega (arith, bit-tried f, bit-kept f, all-on-at d kept h f, all-on-at e changed k f))
 
       pub tried-after : after a (top - d - e) ≡ after a (top - d)
       tried-after =
           same-bits (after a (top - d - e)) (after a (top - d)) (λ f. after-same a (top - d - e) (top - d) f (λ z.
-          let (i, j, l, m, n, o, p, q, r) = split f in omega (arith, bit-tried f, all-on-at e changed k f)))
+          let (i, j, l, m, n, o, p, q, r) = facts f in omega (arith, bit-tried f, all-on-at e changed k f)))
 
   -- each initial state in which the action applies is tried
   module _ (s : ℕ) (i : T (atInit ends s)) (h : T (applies a s)) where
@@ -185,7 +202,7 @@ module _ (ends : Ends) (a : Action) (top kept changed : ℕ) (split : Split ends
     found : top - without kept s - without changed s ≡ s
     found =
         same-bits _ s (λ f.
-        let (j, k, l, m, n, o, p, q, r) = split f in
+        let (j, k, l, m, n, o, p, q, r) = facts f in
         let (t, u) = applies-facts a s h f in
         let w = bit-tried (without kept s) (missing kept) (without changed s) (missing changed) f in
         let x = bit-kept (without kept s) (missing kept) f in

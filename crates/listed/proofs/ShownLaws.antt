@@ -6,7 +6,7 @@ use Prim.Native.Nat.{ℕ, _+_, _-_, _*_, _^_, _≤_, _<_}
 use native.Mathlib.Omega.{arith}
 use native.Mathlib.Decide.{decLt}
 use mathlib.Core.Bool.{Bool, true, false, not, _&&_, _||_}
-use mathlib.Core.List.{List}
+use mathlib.Core.List.{List, []}
 use lib.ListN.{length}
 use lib.Bits.{bitOr}
 use lib.Dec.{T, eqb, eqb→eq, ltb, lt→ltb}
@@ -103,7 +103,11 @@ module _ (bytes : List ℕ) (ends : Ends) (a : Action) (left : List ℕ) (m : �
       let n = all-at r (λ j. not (holdsOne bytes ends s (after a s) (leafIn right j))) h 0 l in
       never (member (after a s) (statesAt bytes (p .at) (p .count))) t (rw (k, asked-after f) at n)))
 
--- one that stands among listed states is found
+-- no state is found where none is listed, and one that stands there is found
+pub none-there : (bytes : List ℕ) (p : Span) (s : ℕ) → p .count ≡ 0 → false ≡ member s (statesAt bytes (p .at) (p .count))
+unfolding statesAt
+none-there bytes p s e = rw e (sym (is-false (member s []) (member-none s)))
+
 pub one-there : (bytes index : List ℕ) {p : Span} → InOrder bytes index p → (k : ℕ) → k < p .count → {s : ℕ} → stateIn bytes index p k ≡ s
     → ltb k (p .count) ≡ member s (statesAt bytes (p .at) (p .count))
 one-there bytes index {p} o k l e =

@@ -2,17 +2,17 @@
 -- Assumes nothing.
 use mathlib.Core.Path.{_≡_}
 use mathlib.Core.Logic.{_⊎_}
-use Prim.Native.Nat.{ℕ, _+_, _-_, _≤_, _<_}
+use Prim.Native.Nat.{ℕ, _-_, _≤_, _<_}
 use mathlib.Core.Bool.{Bool, true, false, not, _&&_, _||_}
 use mathlib.Core.List.{List}
 use lib.ListN.{length}
-use lib.Bits.{bitOr}
+use lib.Bits.{bitAnd, bitOr}
 use lib.Dec.{T, eqb}
 use Rattle.task.specs.declared.Action.{Action}
 use Rattle.task.specs.declared.Ends.{Ends}
-use Rattle.task.specs.Facts.{allOn}
+use Rattle.task.specs.Facts.{allOn, without}
 use Rattle.task.specs.Task.{applies, after}
-use Rattle.task.specs.Inner.{bit, atInit}
+use Rattle.task.specs.Inner.{atInit}
 use Rattle.task.specs.Reach.{member}
 use Rattle.meaning.specs.Sets.{allBelow}
 use Rattle.certificate.specs.declared.Span.{Span}
@@ -59,16 +59,17 @@ OneLess s mask p = (e : ℕ) × T (allOn e mask) × T (p (s - e))
 abbrev pub OneInitial : Ends → (ℕ → Bool) → Type 0
 OneInitial ends p = (s : ℕ) × T (atInit ends s) × T (p s)
 
--- top is the start, with the unknown facts on but those that the action needs off; kept and changed are the unknown facts that it does not
--- need, and of them it adds or deletes those of the second
+-- the unknown facts that the action does not need
+abbrev pub unneeded : Ends → Action → ℕ
+unneeded ends a = without (ends .unknown) (bitOr (a .pre) (a .off))
+
+-- top is the start with the unknown facts on, but for those that the action needs off; kept are the unknown facts that it neither needs nor
+-- changes, and changed those that it adds or deletes and does not need
 abbrev pub Split : Ends → Action → ℕ → ℕ → ℕ → Type 0
-Split ends a top kept changed = (f : ℕ) →
-    (bit f (ends .init) ≤ bit f top + bit f (ends .unknown)) × (bit f top ≤ bit f (ends .init) + bit f (ends .unknown))
-    × (bit f (ends .unknown) ≤ bit f top + bit f (a .off)) × (bit f (ends .unknown) + (bit f top + bit f (a .off)) ≤ 2)
-    × (bit f kept + bit f changed ≤ bit f (ends .unknown))
-    × (bit f (ends .unknown) ≤ bit f kept + bit f changed + (bit f (a .pre) + bit f (a .off)))
-    × (bit f kept + bit f changed + bit f (a .pre) ≤ 1) × (bit f kept + bit f changed + bit f (a .off) ≤ 1)
-    × (bit f changed ≤ bit f (a .add) + bit f (a .del))
+Split ends a top kept changed =
+    (top ≡ without (bitOr (ends .init) (ends .unknown)) (bitAnd (a .off) (ends .unknown)))
+    × (kept ≡ without (unneeded ends a) (bitOr (a .add) (a .del)))
+    × (changed ≡ bitAnd (unneeded ends a) (bitOr (a .add) (a .del)))
 
 module _ (bytes : List ℕ) (ends : Ends) where
   -- a leaf holds s, or t where it is asked about the state after the action

@@ -19,9 +19,9 @@ ghost use Prim.Native.Nat.{ℕ, _+_, _*_, _≤_, _<_};
 ghost use mathlib.Core.Bool.{not, _||_};
 ghost use lib.Bits.{bitAnd};
 ghost use lib.ListN.{length};
-ghost use lib.Dec.{T, eqb, ltb};
+ghost use lib.Dec.{T, eqb};
 ghost use Rattle.task.specs.Facts.{allOn};
-ghost use Rattle.task.specs.Task.{applies};
+ghost use Rattle.task.specs.Task.{applies, after};
 ghost use Rattle.task.specs.Reach.{member};
 ghost use Rattle.meaning.specs.Sets.{allBelow, someBelow};
 ghost use Rattle.certificate.specs.Rows.{byRows, stateIn, InOrder};
@@ -247,7 +247,7 @@ fn one_shows(
 // Whether a state is the k-th of listed states, by size.
 fn is_at(file: &[u8], index: &Index, x: Span, rows: bool, k: usize, s: u64) -> bool
     requires { ⌜ InOrder (now file) (now index) x × (rows ≡ byRows (now index)) ⌝ }
-    ensures { λ b. ⌜ (T b → (k < x .count) × (stateIn (now (file .entry)) (now (index .entry)) x k ≡ s)) ⌝ }
+    ensures { λ b. ⌜ T b ↔ ((k < x .count) × (stateIn (now (file .entry)) (now (index .entry)) x k ≡ s)) ⌝ }
 {
     let many = x.count as usize;
     if many <= k {
@@ -259,7 +259,7 @@ fn is_at(file: &[u8], index: &Index, x: Span, rows: bool, k: usize, s: u64) -> b
 // Whether the action leads from s to one of listed states.
 fn leads(file: &[u8], index: &Index, into: Span, rows: bool, a: Action, s: u64) -> bool
     requires { ⌜ (rows ≡ byRows (now index)) × (0 < into .count → InOrder (now file) (now index) into) ⌝ }
-    ensures { λ b. ⌜ (T b → Led (now (file .entry)) into a s) ⌝ }
+    ensures { λ b. ⌜ b ≡ member (after a s) (statesAt (now (file .entry)) (into .at) (into .count)) ⌝ }
 {
     let many = into.count as usize;
     if many == 0 {

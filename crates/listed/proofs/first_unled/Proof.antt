@@ -53,7 +53,7 @@ turned c =
     let a = v .before .before .before .args in
     elim (c .if2 .came) [
       | inl w ↦
-          let (l, e) = c .before .is-at .ensures (holds (w .0 .taken)) in
+          let (l, e) = c .before .is-at .ensures .0 (holds (w .0 .taken)) in
           sym (one-there _ _ (ordered v .0) _ l (e ∙ c .before .before .after .ensures)) ∙ is-true _ (lt→ltb _ _ l)
       | inr w ↦
           let k : ℕ = w .1 .result in
@@ -85,7 +85,7 @@ first-unled-spec =
     sub-after
     (λ c κs. search needs)
     (λ c κs. ordered (c .before .before .before))
-    (λ c. let (l, e) = c .before .is-at .ensures (holds (c .if2 .taken)) in search needs)
+    (λ c. let (l, e) = c .before .is-at .ensures .0 (holds (c .if2 .taken)) in search needs)
     (λ c κs. ordered (c .before .before .before .before .before))
     returns-2
     (λ c. search needs)

@@ -1,7 +1,7 @@
 -- `listed::tried_show` meets its contract. The invariant: of the states that were passed, none shows it, whatever facts it changes are on.
 -- Assumes nothing.
 use Prim.Native.Nat.{ℕ, _-_, _<_}
-use mathlib.Core.Path.{_≡_, subst, sym}
+use mathlib.Core.Path.{_≡_, subst, sym, _∙_}
 use mathlib.Core.Logic.{inl, inr}
 use mathlib.Core.Bool.{Bool, false}
 use native.Mathlib.Omega.{arith}
@@ -96,7 +96,7 @@ turned c =
     elim (c .if1 .came) [
       | inl t ↦ (λ e w. is-false _ (λ h. subst T (t .2 .left) (t .1 .ensures .1 (e, w, h))))
       | inr t ↦ let v = c .before .before in
-          led-silent v _ (v .first-unled .ensures .0) (c .before .leads .ensures (holds (not-false (c .before .leads .result) (t .left))))
+          led-silent v _ (v .first-unled .ensures .0) (sym (c .before .leads .ensures) ∙ not-false _ (t .left))
     ]
 
 returns : tie.Need-returns Inv-loop μ-loop
