@@ -16,7 +16,7 @@ use Rattle.certificate.specs.declared.ActionEntry.{ActionEntry}
 use Rattle.certificate.specs.declared.ActionEntry.TheVariants.{All, Listed, Either}
 use Rattle.meaning.specs.File.{ActionSet, all, listed, either, File, action_set_at}
 use Rattle.certificate.specs.Views.{view_of_actions}
-use Rattle.bytes.specs.Numbers.{number_at}
+use Rattle.file_numbers.specs.Numbers.{number_at}
 use Rattle.meaning.specs.Writing.{AllFrom, FitsActionSet}
 use Rattle.certificate.specs.Index.{action_place}
 use Rattle.certificate.specs.Known.{Known, decoded}

@@ -2,7 +2,7 @@
 -- Assumes nothing.
 use Rattle.std.specs.Prelude.{◌≡◌, ℕ, ◌+◌, ◌*◌, ◌/◌, ◌%◌, ◌<◌, Bool, ◌⊎◌, List, get_or, T, eqb}
 use Rattle.meaning.specs.File.{File}
-use Rattle.bytes.specs.Numbers.{number_at}
+use Rattle.file_numbers.specs.Numbers.{number_at}
 use Rattle.meaning.specs.Sets.{some_below, in_actions}
 use Rattle.task.specs.Inner.{has}
 

@@ -1,4 +1,6 @@
 // Action sets of a checked file, worked out as marks in one walk down the entries, and their inclusion.
+#![tactic(auto)]
+
 ghost use Rattle.std.specs.Prelude.{◌≡◌, ◌||◌, ◌+◌, ◌≤◌, ◌<◌, length, ltb};
 ghost use Rattle.certificate.specs.Known.{Known, decoded};
 ghost use Rattle.meaning.specs.Sets.{in_actions, actions_within};

@@ -1,8 +1,14 @@
 // Reads a question on standard input, entry (8 bytes, big-endian), state (8) and the file, and prints the answer to it, one line.
-use bytes::u64_at;
-use libc::{STDIN_FILENO, STDOUT_FILENO};
+#![tactic(auto)]
+
+use file_numbers::u64_at;
 use printing::print_answer;
 use question::ask;
+
+// The numbers of the process's streams.
+const STDIN_FILENO: i32 = 0;
+
+const STDOUT_FILENO: i32 = 1;
 
 // One byte more than a file may have is enough to tell that it is too long.
 fn main() {

@@ -12,10 +12,10 @@ use Rattle.bodies.specs.declared.Fault.{Fault}
 use Rattle.bodies.specs.declared.Fault.TheVariants.{None, At}
 use Rattle.meaning.specs.declared.Clause.{Clause}
 use Rattle.meaning.specs.Result.{Result, refuse, found}
-use Rattle.bytes.specs.Numbers.{number_at}
+use Rattle.file_numbers.specs.Numbers.{number_at}
 use Rattle.meaning.specs.Layout.{items, ascending, mask, clause}
 use Rattle.bodies.specs.Faults.{fault_from, form_fits, form_body}
-use Rattle.bytes.specs.ClauseRule.{clause_rule}
+use Rattle.file_numbers.specs.ClauseRule.{clause_rule}
 use Rattle.bodies.proofs.Faults.{forget, from_fine, from_refused, none_yet, items_next, items_stop, items_end, ascending_next}
 use Rattle.bodies.proofs.Faults.{ascending_stop, ascending_low, ascending_end}
 use Rattle.bodies.proofs.FieldLaws.{Top, mask_in, mask_high, clause_first, clause_second, clause_bad, clause_in}

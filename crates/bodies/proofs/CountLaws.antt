@@ -7,7 +7,7 @@ use lib.Count.{ones}
 use lib.Dec.{leb}
 use Rattle.task.proofs.Bits.{ones_are}
 use Rattle.meaning.specs.Layout.{horn_rule, two_cnf_rule}
-use Rattle.bytes.specs.ClauseRule.{clause_rule}
+use Rattle.file_numbers.specs.ClauseRule.{clause_rule}
 
 pub horn_count : (p q : ℕ) → p < 2 ^ 64 → leb (ones p) 1 ≡ clause_rule false p q
 unfolding clause_rule horn_rule

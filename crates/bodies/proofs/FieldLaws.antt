@@ -8,10 +8,10 @@ use lib.ListN.{length}
 use borrow.Author.Tests.{le-leb, lt-leb, lt-ltb, le-ltb, not_true}
 use Rattle.meaning.specs.Result.{refuse, found}
 use Rattle.meaning.specs.Bytes.{inside}
-use Rattle.bytes.specs.Numbers.{number_at}
+use Rattle.file_numbers.specs.Numbers.{number_at}
 use Rattle.meaning.specs.Layout.{field, mask, reference, clause}
 use Rattle.task.proofs.MaskLaws.{within_all}
-use Rattle.bytes.proofs.ByteLaws.{inside_in, number_in}
+use Rattle.file_numbers.proofs.ByteLaws.{inside_in, number_in}
 use Rattle.bodies.proofs.Faults.{goes_on, stops, passed, failed}
 
 -- `top` is the mask of the first n facts

@@ -6,7 +6,7 @@ use Rattle.bodies.specs.declared.Fault.TheVariants.{None, At}
 use Rattle.bodies.specs.declared.Form.{Form}
 use Rattle.bodies.specs.declared.Form.TheVariants.{Unknown, Bare, Numbers, States, Clauses, One, Two}
 use Rattle.meaning.specs.Result.{Result, refuse, found, ◌>>=◌}
-use Rattle.bytes.specs.ClauseRule.{clause_rule}
+use Rattle.file_numbers.specs.ClauseRule.{clause_rule}
 use Rattle.meaning.specs.Layout.{items, ascending, mask, reference, clause, up_to}
 
 abbrev pub fault : {A : Type 0} → Result A → Fault

@@ -1,11 +1,13 @@
 // The bodies of entries by what they hold: how long one may be, by the format and by a check's limits, and replies 5 to 7 at the written
 // places and in the written order.
+#![tactic(auto)]
+
 ghost use Rattle.std.specs.Prelude.{◌≡◌, true, ◌+◌, ◌/◌, ◌<◌, ◌≤◌, length};
 ghost use Rattle.meaning.specs.Layout.{items, ascending, mask, reference, clause, up_to};
-ghost use Rattle.bytes.specs.ClauseRule.{clause_rule};
+ghost use Rattle.file_numbers.specs.ClauseRule.{clause_rule};
 ghost use Rattle.bodies.specs.Faults.{fault_from, form_fits, form_allows, form_body};
 
-use bytes::{u16_at, u64_at};
+use file_numbers::{u16_at, u64_at};
 use task::all_facts;
 
 // What a reader says: no fault, or document 01's number and place.

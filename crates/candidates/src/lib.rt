@@ -1,4 +1,6 @@
 // The right clauses that can fail: a clause that the action leaves as it is, and that a left leaf says of the state before it, is passed over.
+#![tactic(auto)]
+
 ghost use Rattle.std.specs.Prelude.{◌≡◌, true, false, ◌+◌, ◌*◌, ◌<◌, ◌≤◌, length, T};
 ghost use Rattle.words.specs.Words.{words_at};
 ghost use Rattle.certificate.specs.declared.BasicEntry.TheVariants.{Horn, TwoCnf};

@@ -18,9 +18,9 @@ use Rattle.meaning.specs.Layout.{items, ascending, field, mask, reference, claus
 use Rattle.meaning.specs.Layout.{state_kinds, horn_rule, two_cnf_rule, entry}
 use Rattle.certificate.specs.Views.{head_at, span_of, state_table, state_of, action_table, actions_of, state_entry_at, action_entry_at, span}
 use Rattle.certificate.specs.Views.{view_of_basic, view_of, view_of_actions}
-use Rattle.bytes.specs.Numbers.{number_at, clause_at}
+use Rattle.file_numbers.specs.Numbers.{number_at, clause_at}
 use Rattle.meaning.proofs.Results.{found_same, bind_case, need_case, known_out}
-use Rattle.bytes.proofs.ByteLaws.{number_in}
+use Rattle.file_numbers.proofs.ByteLaws.{number_in}
 use Rattle.certificate.proofs.ItemLaws.{Items, Stands, items_stand, ascending_items, field_stands, mask_stands, reference_stands}
 use Rattle.certificate.proofs.ItemLaws.{clause_stands}
 

@@ -14,7 +14,7 @@ use borrow.Author.Count.{below_more}
 use Rattle.task.proofs.Tests.{is_true, is_false}
 use Rattle.certificate.specs.declared.Places.{Places}
 use Rattle.certificate.specs.Views.{after_entry, entry_place}
-use Rattle.bytes.specs.Numbers.{number_at}
+use Rattle.file_numbers.specs.Numbers.{number_at}
 use Rattle.certificate.specs.Index.{capped, Indexed, state_place, action_place, Table}
 
 -- one entry more

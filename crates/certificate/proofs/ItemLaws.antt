@@ -11,12 +11,12 @@ use lib.Dec.{eqb, leb, ltb, leb→le}
 use Rattle.meaning.specs.Result.{Result, found}
 use Rattle.meaning.specs.Bytes.{inside}
 use Rattle.meaning.specs.Layout.{items, ascending, action_size, field, count, mask, reference, off_mask, action, clause, step}
-use Rattle.bytes.specs.Numbers.{number_at, clause_at}
+use Rattle.file_numbers.specs.Numbers.{number_at, clause_at}
 use Rattle.certificate.specs.Views.{off_in, action_in, step_read}
 use Rattle.meaning.proofs.Results.{found_same, bind_case, bind_in, need_case}
 use Rattle.meaning.proofs.Places.{by_test, places, off_none, off_some}
 use Rattle.meaning.proofs.Off.{read_off, read_no_off}
-use Rattle.bytes.proofs.ByteLaws.{number_in}
+use Rattle.file_numbers.proofs.ByteLaws.{number_in}
 
 -- the items stand from place p on, `size` bytes each, all within the file
 pub record Items {A : Type 0} (bytes : List ℕ) (size : ℕ) (at : ℕ → A) (p : ℕ) (xs : List A) : Type 0 where

@@ -9,7 +9,7 @@ use mathlib.Core.List.{List, [], ◌∷◌}
 use lib.ListN.{length, get_or}
 use Rattle.task.specs.Task.{action_at}
 use Rattle.task.specs.Inner.{ends_of}
-use Rattle.bytes.specs.Numbers.{number_at}
+use Rattle.file_numbers.specs.Numbers.{number_at}
 use Rattle.certificate.specs.declared.Places.{Places}
 use Rattle.certificate.specs.declared.ActionEntry.TheVariants.{All}
 use Rattle.certificate.specs.declared.BasicEntry.TheVariants.{Empty}

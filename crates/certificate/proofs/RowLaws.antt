@@ -8,7 +8,7 @@ use mathlib.Core.Bool.{true, false, not}
 use mathlib.Core.List.{List}
 use lib.ListN.{length, get_or}
 use borrow.Author.Tests.{eq-eqb, ne_eqb}
-use Rattle.bytes.specs.Numbers.{number_at}
+use Rattle.file_numbers.specs.Numbers.{number_at}
 use Rattle.sorting.specs.Rows.{state_at, Ascends, Ordered}
 use Rattle.certificate.specs.declared.Span.{Span}
 use Rattle.certificate.specs.Rows.{first_row, by_rows, row_of, state_in, InOrder}

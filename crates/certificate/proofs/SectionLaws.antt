@@ -13,12 +13,12 @@ use Rattle.meaning.specs.File.{ActionSet, StateSet, Step, File}
 use Rattle.meaning.specs.Limits.{full}
 use Rattle.meaning.specs.Layout.{action, step, Kind, action_kinds, state_kinds, entry, entries, read_task, read_file}
 use Rattle.meaning.specs.Layout.{action_count_at, action_size, after_actions}
-use Rattle.bytes.specs.Numbers.{number_at}
+use Rattle.file_numbers.specs.Numbers.{number_at}
 use Rattle.certificate.specs.Views.{after_entry, entry_place, places_of, action_in, step_read}
 use Rattle.meaning.proofs.Reading.{task_walked, file_walked}
 use Rattle.meaning.proofs.Again.{field_out}
 use Rattle.meaning.proofs.Results.{found_same, bind_case}
-use Rattle.bytes.proofs.ByteLaws.{number_in}
+use Rattle.file_numbers.proofs.ByteLaws.{number_in}
 use Rattle.certificate.proofs.ItemLaws.{Items, items_stand, count_stands, action_stands, step_stands}
 use Rattle.certificate.proofs.EntryLaws.{StateSetStands, ActionSetStands, Ends, state_set_stands, action_set_stands}
 

@@ -17,7 +17,7 @@ use Rattle.meaning.specs.File as file
 use Rattle.meaning.specs.File.{ActionSet, all, listed, either, empty, init, goal, explicit, horn, two_cnf, StateSet, basic, complement}
 use Rattle.meaning.specs.File.{intersection, union, progression, regression}
 use Rattle.certificate.specs.Views.{action_entry_at, span, view_of_basic, view_of, view_of_actions}
-use Rattle.bytes.specs.Numbers.{number_at, clause_at}
+use Rattle.file_numbers.specs.Numbers.{number_at, clause_at}
 use Rattle.certificate.proofs.ItemLaws.{Items}
 use Rattle.certificate.proofs.EntryLaws.{BasicItems, StateItems, ActionItems, ActionSetStands}
 

@@ -11,7 +11,7 @@ use Rattle.certificate.specs.declared.Places.{Places}
 use Rattle.meaning.specs.Result.{found}
 use Rattle.meaning.specs.File.{all, basic, empty, File, action_set_at, state_set_at, step_at}
 use Rattle.meaning.specs.Layout.{action_count_at, after_actions, read_file}
-use Rattle.bytes.specs.Numbers.{number_at}
+use Rattle.file_numbers.specs.Numbers.{number_at}
 use Rattle.certificate.specs.Views.{entry_place, places_of, actions_in, action_in, step_read}
 use Rattle.certificate.specs.Index.{capped, state_place, action_place, Table}
 use Rattle.meaning.proofs.Reading.{file_read}

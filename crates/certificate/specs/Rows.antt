@@ -3,7 +3,7 @@
 -- this.
 -- Assumes nothing.
 use Rattle.std.specs.Prelude.{◌≡◌, ℕ, suc, ◌+◌, ◌-◌, ◌*◌, ◌/◌, ◌≤◌, ◌<◌, Bool, true, false, not, List, length, get_or, eqb}
-use Rattle.bytes.specs.Numbers.{number_at}
+use Rattle.file_numbers.specs.Numbers.{number_at}
 use Rattle.sorting.specs.Rows.{state_at, Ascends, Ordered}
 use Rattle.certificate.specs.declared.Span.{Span}
 use Rattle.certificate.specs.declared.BasicEntry.{BasicEntry}

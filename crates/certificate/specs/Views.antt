@@ -25,7 +25,7 @@ use Rattle.meaning.specs.File.{ActionSet, all, listed, either, empty, init, goal
 use Rattle.meaning.specs.File.{StateSet, basic, complement, intersection, union, progression, regression, Step, File, step_at}
 use Rattle.meaning.specs.declared.Limits.{Limits}
 use Rattle.meaning.specs.Layout.{action_count_at, action_size, after_actions, read_within}
-use Rattle.bytes.specs.Numbers.{number_at}
+use Rattle.file_numbers.specs.Numbers.{number_at}
 
 -- the place after the entry at place p
 unfoldable pub after_entry : List ℕ → ℕ → ℕ

@@ -6,7 +6,7 @@ ghost use Rattle.certificate.specs.Known.{Known, Placed};
 
 use crate::views::state_entry;
 use crate::{BasicEntry, Places, Span, StateEntry};
-use bytes::u16_at;
+use file_numbers::u16_at;
 use sorting::{ascends, order_rows};
 
 // A place as two bytes hold it.

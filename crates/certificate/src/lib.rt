@@ -1,4 +1,6 @@
 // The file as it stands in memory: the places of its parts, and its entries and steps as values.
+#![tactic(auto)]
+
 use task::Ends;
 
 pub mod index;

@@ -1,10 +1,10 @@
 // A file's entries, steps and actions as values.
 ghost use Rattle.std.specs.Prelude.{◌≡◌, ◌+◌, ◌-◌, ◌*◌, ◌≤◌, ◌<◌, length};
-ghost use Rattle.bytes.specs.Numbers.{number_at};
+ghost use Rattle.file_numbers.specs.Numbers.{number_at};
 ghost use Rattle.certificate.specs.Views.{head_at, span_of, state_of, actions_of, state_entry_at, action_entry_at, judgement_of, clean_of, step_read, step_of, off_in, action_in};
 
 use crate::{ActionEntry, BasicEntry, Judgement, Premises, Span, StateEntry, Step};
-use bytes::{byte_in, u16_at, u16_in, u64_at};
+use file_numbers::{byte_in, u16_at, u16_in, u64_at};
 use task::Action;
 
 // The numbers of an entry: its kind, where its body starts and how long it is, and the two numbers that start the body.

@@ -16,7 +16,7 @@ use Rattle.meaning.specs.declared.Clause.{Clause}
 use Rattle.meaning.specs.Layout.{horn_rule, two_cnf_rule}
 use Rattle.task.specs.Inner.{bit}
 use Rattle.task.specs.declared.Ends.{Ends}
-use Rattle.bytes.specs.ClauseRule.{clause_rule}
+use Rattle.file_numbers.specs.ClauseRule.{clause_rule}
 use Rattle.certificate.specs.declared.BasicEntry.{BasicEntry}
 use Rattle.certificate.specs.declared.BasicEntry.TheVariants.{Empty, Init, Goal, Explicit, Horn, TwoCnf}
 use Rattle.leaves.specs.declared.Leaf.{Leaf}

@@ -1,5 +1,7 @@
 // Clause statements for one action: the search for a state in which it applies, that meets every left clause and fails a
 // clause of each right leaf.
+#![tactic(auto)]
+
 ghost use Rattle.std.specs.Prelude.{◌≡◌, true, false, ◌+◌, ◌<◌, ◌≤◌, ◌^◌, length};
 ghost use Rattle.certificate.specs.declared.BasicEntry.TheVariants.{Horn};
 ghost use Rattle.leaves.specs.Leaves.{leaves_in};

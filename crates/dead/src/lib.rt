@@ -1,6 +1,8 @@
 // The rules 6 to 14: a set is dead, or the task is unsolvable. The step's judgement and the premises that rules share are taken apart once
 // for each group of rules. A judgement or an entry of any other kind ends the step with 9.
 // The step says that e is dead, and the first premises of SD, PG, PI, RG and RI that l is within r and that u is dead.
+#![tactic(auto)]
+
 ghost use Rattle.std.specs.Prelude.{◌≡◌, ◌≤◌, List, [], ◌∷◌};
 ghost use Rattle.meaning.specs.File.{File};
 ghost use Rattle.certificate.specs.declared.Judgement.{Judgement};

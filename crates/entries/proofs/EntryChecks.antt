@@ -13,11 +13,11 @@ use Rattle.bodies.specs.declared.Fault.{Fault}
 use Rattle.bodies.specs.declared.Fault.TheVariants.{At}
 use Rattle.meaning.specs.Result.{Result, refuse, found, ◌>>=◌, need, known}
 use Rattle.meaning.specs.Bytes.{number, inside}
-use Rattle.bytes.specs.Numbers.{number_at}
+use Rattle.file_numbers.specs.Numbers.{number_at}
 use Rattle.meaning.specs.Layout.{Kind, field, entry}
 use Rattle.bodies.specs.Faults.{fault, fault_from, form_fits, form_allows, form_body}
 use Rattle.entries.specs.Forms.{form_known, form_at}
-use Rattle.bytes.proofs.ByteLaws.{inside_out, number_in}
+use Rattle.file_numbers.proofs.ByteLaws.{inside_out, number_in}
 use Rattle.bodies.proofs.Faults.{forget, told, told_refused, goes_on, stops, passed, failed}
 use Rattle.bodies.proofs.FieldLaws.{field_in}
 use Rattle.entries.proofs.FormLaws.{Same, Alike, no_kind, kind_of_lem}

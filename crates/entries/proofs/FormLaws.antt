@@ -15,7 +15,7 @@ use Rattle.meaning.specs.Layout.{items, ascending, mask, reference, clause, Kind
 use Rattle.meaning.specs.Layout.{horn_rule, two_cnf_rule}
 use Rattle.entries.specs.Forms.{form_known, form_at, action_forms, state_forms, forms_by, forms_of, sets_by, sets_of}
 use Rattle.bodies.specs.Faults.{form_fits, form_allows, form_body}
-use Rattle.bytes.specs.ClauseRule.{clause_rule}
+use Rattle.file_numbers.specs.ClauseRule.{clause_rule}
 use Rattle.bodies.proofs.Faults.{forget}
 
 -- a number that is at least i, and not i

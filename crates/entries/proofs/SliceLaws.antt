@@ -16,8 +16,8 @@ use Rattle.meaning.specs.Result.{Result, refuse, found, ◌>>=◌, need}
 use Rattle.meaning.specs.Bytes.{big_endian, number}
 use Rattle.meaning.specs.Layout.{items, ascending, field, mask, reference, clause}
 use Rattle.bodies.specs.Faults.{fault, fault_from, form_fits, form_body}
-use Rattle.bytes.specs.ClauseRule.{clause_rule}
-use Rattle.bytes.proofs.ByteLaws.{inside_in}
+use Rattle.file_numbers.specs.ClauseRule.{clause_rule}
+use Rattle.file_numbers.proofs.ByteLaws.{inside_in}
 use Rattle.bodies.proofs.Faults.{passed}
 
 -- a reading, with the place of its refusal moved by d

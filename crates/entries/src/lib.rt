@@ -1,4 +1,6 @@
 // One entry: its length, its kind and its body, with replies 3 to 7 and 19 at the written places and in the written order.
+#![tactic(auto)]
+
 ghost use Rattle.std.specs.Prelude.{◌≡◌, ◌≤◌, length};
 ghost use Rattle.meaning.specs.Bytes.{inside};
 ghost use Rattle.meaning.specs.Layout.{entry};

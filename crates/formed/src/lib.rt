@@ -1,4 +1,6 @@
 // Whether a step is well formed, reply 8.
+#![tactic(auto)]
+
 ghost use Rattle.std.specs.Prelude.{◌≡◌, ℕ, ◌<◌, ◌&&◌, List, [], ◌∷◌, ltb, eqb, length, take, drop};
 ghost use Rattle.task.specs.Reach.{every};
 ghost use Rattle.meaning.specs.File.{File, step_at};

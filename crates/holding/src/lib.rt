@@ -1,4 +1,6 @@
 // Whether an entry holds a state, by asking the entries that it names; [A]S is asked by trying each action and asking S again.
+#![tactic(auto)]
+
 ghost use Rattle.std.specs.Prelude.{◌≡◌, false, ◌<◌, length};
 ghost use Rattle.task.specs.Inner.{ends_of};
 ghost use Rattle.certificate.specs.Known.{Known, decoded};

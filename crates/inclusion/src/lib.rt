@@ -1,4 +1,6 @@
 // The verdict on a basic statement, rules 1 to 5: its leaves are gathered, and then its truth is decided by listed states or by clauses.
+#![tactic(auto)]
+
 ghost use Rattle.std.specs.Prelude.{◌≡◌, ◌↔◌, true, ◌≤◌, ◌<◌, ◌^◌, T, length};
 ghost use Rattle.task.specs.Inner.{ends_of};
 ghost use Rattle.certificate.specs.Known.{Known, decoded};

@@ -1,7 +1,10 @@
 // Reads parts of standard input.
+#![tactic(auto)]
+
 ghost use Rattle.std.specs.Prelude.{◌≡◌, length};
 
-use libc::STDIN_FILENO;
+// The number of standard input.
+const STDIN_FILENO: i32 = 0;
 
 // Reads the next bytes of standard input, as many as asked for where the buffer holds them and none where it does not, and returns how
 // many there were.

@@ -1,4 +1,6 @@
 // What the kinds in the arrays say of a statement: whether it is permitted, and where its anchor is.
+#![tactic(auto)]
+
 ghost use Rattle.std.specs.Prelude.{◌≡◌, ◌≤◌, length};
 ghost use Rattle.kinds.specs.Summary.{may_anchor};
 ghost use Rattle.kinds.specs.Summary.{kind_in, flags_in, Anchor, from_of, to_of, permits_by, Summary};

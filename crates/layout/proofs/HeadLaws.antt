@@ -3,7 +3,7 @@
 use mathlib.Core.Path.{◌≡◌, sym, ap, ◌∙◌}
 use Prim.Native.Nat.{ℕ, ◌+◌}
 use mathlib.Core.List.{List}
-use Rattle.bytes.specs.Numbers.{number_at}
+use Rattle.file_numbers.specs.Numbers.{number_at}
 use Rattle.reader.specs.declared.TaskHead.{TaskHead}
 use Rattle.reader.specs.Heads.{task_head_at}
 use Rattle.meaning.specs.Layout.{goal_at, off_size, action_count_at}

@@ -22,12 +22,12 @@ use Rattle.meaning.specs.Bytes.{number}
 use Rattle.meaning.specs.declared.Limits.{Limits}
 use Rattle.meaning.specs.File.{File}
 use Rattle.certificate.specs.Views.{outline_to, outline_of}
-use Rattle.bytes.specs.Numbers.{number_at}
+use Rattle.file_numbers.specs.Numbers.{number_at}
 use Rattle.meaning.specs.Layout.{count, goal_at, action_count_at, after_actions, read_task, read_within}
 use Rattle.bodies.specs.Faults.{fault}
 use Rattle.layout.specs.Sections.{is_whole, unknown_at, goal_off_at, rest, section_at, step_count_at, steps_at, rest_at}
 use Rattle.meaning.proofs.Results.{bind_case, found_same, and_out}
-use Rattle.bytes.proofs.ByteLaws.{number_in}
+use Rattle.file_numbers.proofs.ByteLaws.{number_in}
 use Rattle.bodies.proofs.Faults.{found_of, refused_of, goes_on, stops, passed, failed}
 use Rattle.layout.proofs.SectionChecks.{count_is, step_count_is}
 use Rattle.layout.proofs.OutlineLaws.{TaskIs, task_is, Agree, refusals, values, start, later, tail, placed, Placed, tail_agrees}

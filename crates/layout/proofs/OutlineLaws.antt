@@ -15,7 +15,7 @@ use Rattle.meaning.specs.Bytes.{number}
 use Rattle.meaning.specs.declared.Limits.{Limits}
 use Rattle.meaning.specs.File.{File, ActionSet, StateSet, Step}
 use Rattle.certificate.specs.Views.{after_entry, entry_place, places_of}
-use Rattle.bytes.specs.Numbers.{number_at}
+use Rattle.file_numbers.specs.Numbers.{number_at}
 use Rattle.meaning.specs.Layout.{items, count, action, step, Kind, action_kinds, state_kinds, entry, entries}
 use Rattle.meaning.specs.Layout.{goal_at, action_count_at, action_size, after_actions, read_task}
 use Rattle.bodies.specs.Faults.{fault}
@@ -23,7 +23,7 @@ use Rattle.layout.specs.Sections.{unknown_at, goal_off_at, section_at, step_coun
 use Rattle.meaning.proofs.Reading.{task_walked}
 use Rattle.meaning.proofs.Results.{bind_case, found_same}
 use Rattle.meaning.proofs.Given.{items_give, action_sets_give, state_sets_give}
-use Rattle.bytes.proofs.ByteLaws.{number_in}
+use Rattle.file_numbers.proofs.ByteLaws.{number_in}
 use Rattle.layout.proofs.SectionChecks.{field_is, count_is, entry_fine}
 use Rattle.layout.proofs.TaskLaws.{mask_is, unknown_is, goal_off_is}
 

@@ -13,7 +13,7 @@ use Rattle.layout.specs.declared.Rest.TheVariants.{After as Both, Refused as End
 use Rattle.entries.specs.declared.Section.{Section}
 use Rattle.meaning.specs.declared.Limits.{Limits}
 use Rattle.meaning.specs.Result.{Result, refuse, found}
-use Rattle.bytes.specs.Numbers.{number_at}
+use Rattle.file_numbers.specs.Numbers.{number_at}
 use Rattle.bodies.specs.Faults.{fault}
 use Rattle.layout.specs.Rows.{walked}
 use Rattle.layout.specs.Sections.{rest, section_at, steps_at, rest_at}

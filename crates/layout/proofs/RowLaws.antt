@@ -16,13 +16,13 @@ use Rattle.layout.specs.declared.rows.Walked.{Walked}
 use Rattle.entries.specs.declared.Section.{Section}
 use Rattle.meaning.specs.Result.{Result, refuse, found, ◌>>=◌}
 use Rattle.meaning.specs.Bytes.{number}
-use Rattle.bytes.specs.Numbers.{number_at}
+use Rattle.file_numbers.specs.Numbers.{number_at}
 use Rattle.meaning.specs.Layout.{items, field, mask, step, entry, entries}
 use Rattle.bodies.specs.Faults.{fault}
 use Rattle.entries.specs.Forms.{sets_of}
 use Rattle.layout.specs.Rows.{item_fault, item_size, seen_of, seen_at, stop_at, stop_from, walked_to, walked, steps_from}
 use Rattle.meaning.proofs.Results.{bind_case}
-use Rattle.bytes.proofs.ByteLaws.{number_in}
+use Rattle.file_numbers.proofs.ByteLaws.{number_in}
 use Rattle.bodies.proofs.Faults.{found_of, told_refused}
 use Rattle.layout.proofs.SectionChecks.{field_is, entry_fine, steps_cut}
 

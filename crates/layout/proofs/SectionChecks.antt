@@ -15,7 +15,7 @@ use Rattle.layout.specs.declared.rows.Walked.TheVariants.{After, Refused as Stop
 use Rattle.entries.specs.declared.Section.{Section}
 use Rattle.meaning.specs.Result.{Result, refuse, found, ◌>>=◌}
 use Rattle.meaning.specs.Bytes.{inside}
-use Rattle.bytes.specs.Numbers.{number_at}
+use Rattle.file_numbers.specs.Numbers.{number_at}
 use Rattle.meaning.specs.File.{Step}
 use Rattle.meaning.specs.Layout.{items, field, count, step, Kind, entry, entries}
 use Rattle.bodies.specs.Faults.{fault}
@@ -23,7 +23,7 @@ use Rattle.entries.specs.Forms.{sets_of}
 use Rattle.layout.specs.Rows.{walked, steps_from}
 use Rattle.layout.specs.Sections.{section_at, step_count_at, steps_at}
 use Rattle.meaning.proofs.Results.{bind_case, need_case, found_same}
-use Rattle.bytes.proofs.ByteLaws.{inside_in, inside_past, inside_out, number_in}
+use Rattle.file_numbers.proofs.ByteLaws.{inside_in, inside_past, inside_out, number_in}
 use Rattle.bodies.proofs.Faults.{forget, told_fine, told_refused, found_of, refused_of, goes_on, stops, passed, failed, forget_after}
 use Rattle.bodies.proofs.FieldLaws.{field_in}
 use Rattle.task.proofs.Tests.{is_true, and_right}

@@ -15,7 +15,7 @@ use Rattle.bodies.specs.declared.Fault.{Fault}
 use Rattle.bodies.specs.declared.Fault.TheVariants.{None, At}
 use Rattle.meaning.specs.Result.{Result, refuse, found, ◌>>=◌, need}
 use Rattle.meaning.specs.Bytes.{inside}
-use Rattle.bytes.specs.Numbers.{number_at}
+use Rattle.file_numbers.specs.Numbers.{number_at}
 use Rattle.meaning.specs.Layout.{items, field, count, mask, off_mask, action, goal_at, off_size, action_count_at, action_size, after_actions}
 use Rattle.meaning.specs.Layout.{unknown_mask, read_task}
 use Rattle.bodies.specs.Faults.{fault}
@@ -24,7 +24,7 @@ use Rattle.meaning.proofs.Results.{bind_case, bind_same, need_case, found_same}
 use Rattle.meaning.proofs.Places.{by_test, goal_first, goal_later, off_none, off_some, places}
 use Rattle.meaning.proofs.Off.{read_off, read_no_off}
 use Rattle.meaning.proofs.Unknown.{Unknown, none, some, unknown_out}
-use Rattle.bytes.proofs.ByteLaws.{inside_out}
+use Rattle.file_numbers.proofs.ByteLaws.{inside_out}
 use Rattle.bodies.proofs.Faults.{forget, told, found_of, refused_of, goes_on, stops, passed, failed, forget_after}
 use Rattle.bodies.proofs.FieldLaws.{field_in}
 use Rattle.layout.proofs.SectionChecks.{field_is, count_found}

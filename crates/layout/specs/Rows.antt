@@ -11,7 +11,7 @@ use Rattle.layout.specs.declared.rows.Walked.{Walked}
 use Rattle.layout.specs.declared.rows.Walked.TheVariants.{After, Refused}
 use Rattle.meaning.specs.Result.{Result, refuse, found, ◌>>=◌}
 use Rattle.meaning.specs.File.{Step}
-use Rattle.bytes.specs.Numbers.{number_at}
+use Rattle.file_numbers.specs.Numbers.{number_at}
 use Rattle.meaning.specs.Layout.{items, mask, step, entry}
 use Rattle.bodies.specs.Faults.{fault}
 use Rattle.entries.specs.Forms.{sets_of}

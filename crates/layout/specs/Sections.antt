@@ -7,7 +7,7 @@ use Rattle.task.specs.declared.Ends.{Ends}
 use Rattle.reader.specs.declared.TaskHead.{TaskHead}
 use Rattle.entries.specs.declared.Section.{Section}
 use Rattle.meaning.specs.Result.{Result, refuse, found, ◌>>=◌, need}
-use Rattle.bytes.specs.Numbers.{number_at}
+use Rattle.file_numbers.specs.Numbers.{number_at}
 use Rattle.meaning.specs.File.{Step}
 use Rattle.meaning.specs.declared.Limits.{Limits}
 use Rattle.meaning.specs.Layout.{items, goal_at, off_size, field, count, mask, off_mask, step, entries, unknown_mask}

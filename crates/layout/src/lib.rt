@@ -1,5 +1,7 @@
 // How a file is read, front to back, with replies 1 to 7 and 16 at the written places and in the written order, and 19 for a check's own
 // limits.
+#![tactic(auto)]
+
 ghost use Rattle.std.specs.Prelude.{◌≡◌, ◌≤◌, length};
 ghost use Rattle.meaning.specs.Limits.{full, small};
 ghost use Rattle.meaning.specs.Layout.{count, read_task};
@@ -11,9 +13,9 @@ ghost use Rattle.layout.specs.Sections.{section_at, step_count_at, steps_at, res
 
 use crate::rows::{Row, Walked, told, walk};
 use bodies::Fault;
-use bytes::{byte_at, u16_at, u32_at, u64_at};
 use certificate::{Outline, Places};
 use entries::{Section, inside};
+use file_numbers::{byte_at, u16_at, u32_at, u64_at};
 use meaning::Limits;
 use reader::{TaskHead, task_head};
 use task::Ends;

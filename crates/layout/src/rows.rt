@@ -5,8 +5,8 @@ ghost use Rattle.bodies.specs.Faults.{fault};
 ghost use Rattle.layout.specs.Rows.{seen_of, seen_at, stop_from, walked_to};
 
 use bodies::Fault;
-use bytes::{u16_at, u64_at};
 use entries::{Section, entry, inside};
+use file_numbers::{u16_at, u64_at};
 use reader::{past, reader_at};
 use task::all_facts;
 

@@ -22,8 +22,8 @@ use Rattle.meaning.specs.Shapes.{kind_at}
 use Rattle.meaning.specs.Writing.{AllFrom, FitsClauses, FitsBasic, FitsStateSet}
 use Rattle.meaning.proofs.Below.{all_at, all_of}
 use Rattle.meaning.proofs.Order as order
-use Rattle.bytes.specs.Numbers.{number_at, clause_at}
-use Rattle.bytes.specs.ClauseRule.{clause_rule}
+use Rattle.file_numbers.specs.Numbers.{number_at, clause_at}
+use Rattle.file_numbers.specs.ClauseRule.{clause_rule}
 use Rattle.words.specs.Words.{words_at}
 use Rattle.certificate.specs.declared.BasicEntry.{BasicEntry}
 use Rattle.certificate.specs.declared.BasicEntry.TheVariants.{Empty, Init, Goal, Explicit, Horn, TwoCnf}

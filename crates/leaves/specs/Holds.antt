@@ -4,8 +4,8 @@ use Rattle.std.specs.Prelude.{ℕ, zero, suc, ◌+◌, ◌*◌, ◌≤◌, ◌<�
 use Rattle.task.specs.declared.Ends.{Ends}
 use Rattle.task.specs.Inner.{at_init, at_goal}
 use Rattle.task.specs.Reach.{member}
-use Rattle.bytes.specs.Numbers.{number_at}
-use Rattle.bytes.specs.ClauseRule.{clause_rule}
+use Rattle.file_numbers.specs.Numbers.{number_at}
+use Rattle.file_numbers.specs.ClauseRule.{clause_rule}
 use Rattle.meaning.specs.Sets.{all_below, meets}
 use Rattle.words.specs.Words.{words_at}
 use Rattle.certificate.specs.declared.Span.{Span}

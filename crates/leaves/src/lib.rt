@@ -1,5 +1,7 @@
 // A leaf of a basic statement: a state set of kinds 0 to 5, and which state it is asked about. Leaves stand in arrays, one word each; here
 // they are put into words and taken out.
+#![tactic(auto)]
+
 ghost use Rattle.std.specs.Prelude.{◌≡◌, ◌+◌, ◌*◌, ◌<◌, length};
 ghost use Rattle.leaves.specs.Leaves.{kind_of, items_of, basic_of, flag, word_leaf, leaf_in};
 

@@ -1,4 +1,6 @@
 // The checker, whole, with smaller limits and in rounds, and the question for programs in C or Rust: each reply as one number.
+#![tactic(auto)]
+
 ghost use Rattle.std.specs.Prelude.{◌≡◌, min, ◌<◌};
 ghost use Rattle.task.specs.Reach.{Safe};
 ghost use Rattle.meaning.specs.Result.{found};

@@ -17,7 +17,7 @@ use Rattle.task.specs.Reach.{member}
 use Rattle.task.proofs.Bits.{no_change}
 use Rattle.task.proofs.Tests.{and_left, and_right, and_both, both_ways, or_cases, or_left, or_right, excluded}
 use Rattle.task.proofs.Tests.{holds, is_true, is_false, never, same, member_none}
-use Rattle.bytes.specs.Numbers.{number_at}
+use Rattle.file_numbers.specs.Numbers.{number_at}
 use Rattle.meaning.specs.Sets.{all_below, some_below}
 use Rattle.meaning.proofs.Below.{all_at, all_of, some_at, some_of}
 use Rattle.certificate.specs.declared.Span.{Span}

@@ -1,4 +1,6 @@
 // Statements over listed states: whether an action in a listed state makes a statement untrue.
+#![tactic(auto)]
+
 ghost use Rattle.std.specs.Prelude.{◌≡◌, ◌↔◌, ℕ, ◌+◌, ◌*◌, ◌≤◌, ◌<◌, not, ◌||◌, length, T, eqb};
 ghost use Rattle.std.specs.Int.Bits.{bit_and};
 ghost use Rattle.task.specs.Facts.{all_on};

@@ -1,5 +1,7 @@
 // Entries, actions and steps of a file whose layout was checked, each as the file that was read has it. A number that names none gives what
 // the definitions have there.
+#![tactic(auto)]
+
 ghost use Rattle.std.specs.Prelude.{◌≡◌, ◌<◌};
 ghost use Rattle.task.specs.Task.{action_at};
 ghost use Rattle.meaning.specs.File.{action_set_at, state_set_at, step_at};
@@ -7,9 +9,9 @@ ghost use Rattle.certificate.specs.Views.{view_of, view_of_actions, actions_in, 
 ghost use Rattle.certificate.specs.Index.{state_place, action_place};
 ghost use Rattle.certificate.specs.Known.{decoded, IsRead, Known, Placed};
 
-use bytes::{byte_at, u16_at};
 use certificate::views::{action_at, action_entry, state_entry, step_in};
 use certificate::{ActionEntry, Actions, BasicEntry, Index, Judgement, Places, StateEntry, Step};
+use file_numbers::{byte_at, u16_at};
 use task::Action;
 use versions::{action_count_at, action_size};
 

@@ -1,5 +1,6 @@
 // What the checker means: the file, the sets it names, the rules, the replies, and the theorems about them.
 // The code here is the five types that the definitions share with the checker.
+#![tactic(auto)]
 
 // A clause: some positive fact is on, or some negative fact is off.
 #[derive(Drop)]

@@ -12,9 +12,9 @@ use lib.ListN.{length}
 use lib.Dec.{T, ltb, lt→ltb, ltb→lt}
 use Rattle.task.specs.Reach.{member}
 use Rattle.task.proofs.Tests.{is_true, is_false, member_none, member_first, member_rest, member_cases}
-use Rattle.bytes.specs.Numbers.{number_at}
+use Rattle.file_numbers.specs.Numbers.{number_at}
 use Rattle.meaning.specs.Bytes.{number}
-use Rattle.bytes.proofs.ByteLaws.{number_in}
+use Rattle.file_numbers.proofs.ByteLaws.{number_in}
 use Rattle.certificate.specs.declared.Span.{Span}
 use Rattle.certificate.specs.Rows.{row_of, state_in, InOrder}
 use Rattle.leaves.specs.Holds.{states_at}

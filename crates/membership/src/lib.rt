@@ -1,4 +1,6 @@
 // Whether a set of kinds 0 to 5 holds a state: listed states by search, clauses one by one.
+#![tactic(auto)]
+
 ghost use Rattle.std.specs.Prelude.{◌≡◌, ◌+◌, ◌*◌, ◌≤◌, ◌<◌, length, ltb};
 ghost use Rattle.task.specs.Reach.{member};
 ghost use Rattle.meaning.specs.Sets.{all_below, meets};
@@ -6,8 +8,8 @@ ghost use Rattle.words.specs.Words.{words_at};
 ghost use Rattle.certificate.specs.Rows.{by_rows, state_in, InOrder};
 ghost use Rattle.leaves.specs.Holds.{states_at, set_holds, Orderly};
 
-use bytes::u64_in;
 use certificate::{BasicEntry, Index, Span};
+use file_numbers::u64_in;
 use meaning::Clause;
 use task::{Ends, all_on, is_goal, is_init};
 use words::words_in;

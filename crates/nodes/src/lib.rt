@@ -1,4 +1,6 @@
 // An entry as numbers: its kind and the two entries that it names.
+#![tactic(auto)]
+
 ghost use Rattle.std.specs.Prelude.{◌≡◌};
 ghost use Rattle.certificate.specs.Known.{Known, decoded};
 ghost use Rattle.nodes.specs.Nodes.{numbers, node_of, node_at, is_basic_entry};

@@ -1,10 +1,16 @@
 // Reads a list of rule numbers on standard input, its length (4 bytes, big-endian) and its bytes, then a file whose steps have these
 // numbers, and prints the checker's reply to it, one line.
-use bytes::u32_at;
+#![tactic(auto)]
+
+use file_numbers::u32_at;
 use input::read_part;
-use libc::{STDIN_FILENO, STDOUT_FILENO};
 use printing::print_reply;
 use verifier::check_numbered;
+
+// The numbers of the process's streams.
+const STDIN_FILENO: i32 = 0;
+
+const STDOUT_FILENO: i32 = 1;
 
 fn no_list() {
     io::write_all(STDOUT_FILENO, b"no list\n");

@@ -1,4 +1,6 @@
 // A caller's own rule numbers: the faults of its list, refusal 18, and the table of the rules that its numbers stand for.
+#![tactic(auto)]
+
 ghost use Rattle.std.specs.Prelude.{◌≡◌, ℕ};
 ghost use Rattle.meaning.specs.Result.{found};
 ghost use Rattle.meaning.specs.Numbering.{check_numbers, rule_meant};

@@ -1,4 +1,6 @@
 // The rules' numbers, premise counts and judgement kinds.
+#![tactic(auto)]
+
 ghost use Rattle.std.specs.Prelude.{◌≡◌, ◌*◌, ◌/◌, ◌%◌, ◌^◌, ◌<◌, ◌≤◌};
 ghost use Rattle.numbers.specs.Numbers.{premises_of, judgement_kind_of};
 

@@ -1,4 +1,6 @@
 // A statement's leaves as they are written, before complements change sides.
+#![tactic(auto)]
+
 ghost use Rattle.std.specs.Prelude.{◌≡◌, ◌≤◌};
 ghost use Rattle.certificate.specs.Known.{Known, decoded};
 ghost use Rattle.parts.specs.Written.{SoundParts, sides_in, Paired, Plain, Bracketed, Parted, literals_of};

@@ -1,5 +1,7 @@
 // Tests of the entries that a rule's pattern names, each answered by the step's reply. An entry is taken apart into the wanted case; one
 // of any other kind ends the step with 9.
+#![tactic(auto)]
+
 ghost use Rattle.std.specs.Prelude.{◌≡◌, eqb};
 ghost use Rattle.meaning.specs.File.{action_set_at, action_kind};
 ghost use Rattle.certificate.specs.Known.{Known, decoded};

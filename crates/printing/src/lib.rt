@@ -1,10 +1,14 @@
 // Prints replies, rounds and answers, one line each. What the line is, is proved; that it arrives, no contract can say.
+#![tactic(auto)]
+
 ghost use Rattle.std.specs.Prelude.{◌≡◌, List, ◌++◌, ℕ, ◌+◌, ◌≤◌, length, take};
 ghost use Rattle.io.specs.Counts.{IsPrefixLen};
 ghost use Rattle.printing.specs.Lines.{Numeral, RefusedLine, ReplyLine, GoOnLine, RoundLine, AnswerLine};
 
-use libc::STDOUT_FILENO;
 use meaning::{Answer, Reply, Round};
+
+// The number of standard output.
+const STDOUT_FILENO: i32 = 1;
 
 // Puts a text into a line, and returns where it ends.
 fn put(line: &mut [u8], at: usize, text: &[u8]) -> usize

@@ -1,5 +1,7 @@
 // Unit propagation over the clauses of leaves, for one action: what an assignment comes to know where each clause is to hold, until nothing
 // changes. Clauses are read from the file whenever they are looked at; none is kept.
+#![tactic(auto)]
+
 ghost use Rattle.std.specs.Prelude.{◌≡◌, true, false, ◌+◌, ◌-◌, ◌*◌, ◌<◌, ◌≤◌, ◌^◌, length};
 ghost use Rattle.task.specs.Facts.{without};
 ghost use Rattle.propagation.specs.Clauses.{fact_clause, clause_count, words_of, own_clause, clause_of, acting, effect_of};

@@ -1,4 +1,6 @@
 // The question whether a state is in an entry's set.
+#![tactic(auto)]
+
 ghost use Rattle.std.specs.Prelude.{◌≡◌, false, ◌<◌};
 ghost use Rattle.certificate.specs.Known.{Known, Placed, decoded};
 ghost use Rattle.meaning.specs.Question.{shallow, askable, answer_of};

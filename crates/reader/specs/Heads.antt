@@ -3,7 +3,7 @@
 use Rattle.std.specs.Prelude.{ℕ, ◌+◌, List}
 use Rattle.reader.specs.declared.EntryHead.{EntryHead}
 use Rattle.reader.specs.declared.TaskHead.{TaskHead}
-use Rattle.bytes.specs.Numbers.{number_at}
+use Rattle.file_numbers.specs.Numbers.{number_at}
 
 -- the entry at place p: the length of its rest, and its kind
 abbrev pub entry_head_at : List ℕ → ℕ → EntryHead

@@ -1,9 +1,11 @@
 // The reading place, which walks the file without copying it: thin functions over those of `bytes`, and the heads that are read by them.
+#![tactic(auto)]
+
 ghost use Rattle.std.specs.Prelude.{◌≡◌, ◌+◌, ◌^◌, ◌<◌};
-ghost use Rattle.bytes.specs.Numbers.{number_at};
+ghost use Rattle.file_numbers.specs.Numbers.{number_at};
 ghost use Rattle.reader.specs.Heads.{entry_head_at, task_head_at};
 
-use bytes::{byte_at, u16_at, u64_at};
+use file_numbers::{byte_at, u16_at, u64_at};
 
 // The file, and a place in it.
 #[derive(Drop)]

@@ -1,16 +1,24 @@
 // Reads a count (8 bytes, big-endian) and a file on standard input, and checks the file in rounds of so many steps. What each round says
 // goes to standard error, and the reply at the end to standard output, one line each.
+#![tactic(auto)]
+
 ghost use Rattle.std.specs.Prelude.{◌≡◌, ℕ, replicate, T};
 ghost use Rattle.meaning.specs.Reply.{reply_of};
 ghost use Rattle.meaning.specs.Judged.{JudgedBy};
 ghost use Rattle.meaning.specs.Rounds.{lawful_count, run, at_end};
 
-use bytes::u64_at;
+use file_numbers::u64_at;
 use input::read_part;
-use libc::{STDERR_FILENO, STDIN_FILENO, STDOUT_FILENO};
 use meaning::{Reply, Round};
 use printing::{print_reply, print_round};
 use verifier::check_round;
+
+// The numbers of the process's streams.
+const STDIN_FILENO: i32 = 0;
+
+const STDOUT_FILENO: i32 = 1;
+
+const STDERR_FILENO: i32 = 2;
 
 // A run of rounds: the first from step 0, each later one from the step handed back.
 fn run(file: &[u8], count: u64) -> Reply

@@ -1,4 +1,6 @@
 // The steps of a file in turn, some of them or all from one on, each by the rule that its number stands for.
+#![tactic(auto)]
+
 ghost use Rattle.std.specs.Prelude.{◌≡◌, ℕ, ◌+◌, ◌-◌, ◌≤◌, ◌<◌, get_or};
 ghost use Rattle.meaning.specs.File.{step_at};
 ghost use Rattle.meaning.specs.Reply.{check_last, check_from, reply_to};

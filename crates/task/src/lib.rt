@@ -1,4 +1,6 @@
 // The planning task: states as masks of facts, actions, and the move of one action. Nothing here knows of files.
+#![tactic(auto)]
+
 ghost use Rattle.std.specs.Prelude.{◌≡◌, ◌-◌, ◌^◌, min, ◌&&◌};
 ghost use Rattle.task.specs.Facts.{all_on, all_off};
 ghost use Rattle.task.specs.Task.{applies, after};

@@ -1,4 +1,6 @@
 // Lists of few entries: the leaves of a tree, those of a kind, and tests of all.
+#![tactic(auto)]
+
 ghost use Rattle.std.specs.Prelude.{◌≡◌, ◌||◌, [], ◌∷◌, ◌++◌, take, T, eqb};
 ghost use Rattle.certificate.specs.Known.{Known, decoded};
 ghost use Rattle.task.specs.Reach.{every};

@@ -1,4 +1,6 @@
 // Numbers in the file's byte order: a word of the file as it stands there, and a word with its bytes turned.
+#![tactic(auto)]
+
 ghost use Rattle.std.specs.Prelude.{◌≡◌, ◌+◌, ◌*◌, ◌<◌, ◌≤◌, ◌^◌, length};
 ghost use Rattle.meaning.specs.Bytes.{number};
 ghost use Rattle.turned.specs.Turned.{turned2, turned4, turned8};

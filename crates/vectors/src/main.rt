@@ -2,12 +2,18 @@
 // A record is its kind (1 byte), entry (8), state (8), the file's length (4) and the file. Kind 0 is a file to check, 1 a question, 2 a
 // file with a list of rule numbers: the list's length stands in the entry's place, and the list before the file; 3 is a round, with the
 // step that it begins at in the entry's place and the count of its steps in the state's; 4 is a file to check with smaller limits.
-use bytes::{u32_at, u64_at};
+#![tactic(auto)]
+
+use file_numbers::{u32_at, u64_at};
 use input::read_part;
-use libc::{STDIN_FILENO, STDOUT_FILENO};
 use printing::{print_answer, print_reply, print_round};
 use question::ask;
 use verifier::{check, check_numbered, check_round, check_small};
+
+// The numbers of the process's streams.
+const STDIN_FILENO: i32 = 0;
+
+const STDOUT_FILENO: i32 = 1;
 
 // Replies to a case.
 fn reply(kind: u8, entry: u64, state: u64, numbers: &[u8], file: &[u8]) {

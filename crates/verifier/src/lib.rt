@@ -1,4 +1,6 @@
 // The checker of a file: whole by document 01's rule numbers or a caller's own, whole with smaller limits, and in rounds.
+#![tactic(auto)]
+
 ghost use Rattle.std.specs.Prelude.{◌≡◌, ◌&&◌, ℕ, ltb};
 ghost use Rattle.task.specs.Reach.{Safe};
 ghost use Rattle.meaning.specs.Result.{found};

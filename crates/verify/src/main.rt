@@ -1,7 +1,11 @@
 // Reads a file on standard input and prints the checker's reply to it, one line.
-use libc::STDIN_FILENO;
+#![tactic(auto)]
+
 use printing::print_reply;
 use verifier::check;
+
+// The number of standard input.
+const STDIN_FILENO: i32 = 0;
 
 // One byte more than a file may have is enough to tell that it is too long.
 fn main() {

@@ -1,5 +1,7 @@
 // The places in a file that depend on its version: from version 2 on the unknown facts stand between the start and the goal's mask, and in
 // version 3 a mask of facts that are off stands behind the goal's mask and at the end of each action.
+#![tactic(auto)]
+
 ghost use Rattle.std.specs.Prelude.{◌≡◌, ◌+◌, not, eqb};
 ghost use Rattle.meaning.specs.Layout.{goal_at, off_size, action_count_at, action_size, after_actions};
 

@@ -1,6 +1,8 @@
 // The rules 15 to 28: a state set is within another. The step's judgement and its premises' are taken apart once for each group of rules;
 // a rule is then asked about entry numbers. A judgement or an entry of any other kind ends the step with 9.
 // The step says that l is within r, and the premises that a is within b and c within d.
+#![tactic(auto)]
+
 ghost use Rattle.std.specs.Prelude.{◌≡◌, ◌≤◌, List, [], ◌∷◌};
 ghost use Rattle.meaning.specs.File.{File};
 ghost use Rattle.certificate.specs.declared.Judgement.{Judgement};

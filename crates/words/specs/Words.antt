@@ -3,7 +3,7 @@
 use Rattle.std.specs.Prelude.{◌≡◌, Bool, true, List, ℕ, ◌+◌, ◌*◌, ◌≤◌, ◌<◌}
 use Rattle.std.specs.Int.Bits.{bit_and}
 use Rattle.meaning.specs.declared.Clause.{Clause}
-use Rattle.bytes.specs.Numbers.{clause_at}
+use Rattle.file_numbers.specs.Numbers.{clause_at}
 
 -- clause i of those that stand in the file from a place
 unfoldable pub words_at : List ℕ → ℕ → ℕ → Clause

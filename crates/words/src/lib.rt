@@ -1,8 +1,10 @@
 // Clauses as they stand in the file, two words each: one is read, and the next is found that has a fact in common with masks.
+#![tactic(auto)]
+
 ghost use Rattle.std.specs.Prelude.{◌≡◌, ◌↔◌, ◌+◌, ◌*◌, ◌<◌, ◌≤◌, ◌^◌, length};
 ghost use Rattle.words.specs.Words.{words_at, Misses, MissedAt, FirstHit};
 
-use bytes::{u64_at, u64_in};
+use file_numbers::{u64_at, u64_in};
 use meaning::Clause;
 use turned::{turned, u64_turned};
 

@@ -5,7 +5,7 @@ use mathlib.Core.Bool.{Bool}
 use native.Mathlib.Omega.{arith}
 use lib.Count.{ones-le}
 use borrow.Author.Rules.{rules}
-use Rattle.bytes.specs.ClauseRule.{clause_rule}
+use Rattle.file_numbers.specs.ClauseRule.{clause_rule}
 use Rattle.bodies.proofs.CountLaws.{horn_count, two_count}
 use Rattle.bodies.proofs.passes.Statement.{statement}
 use Rattle.bodies.proofs.passes.Tie as tie

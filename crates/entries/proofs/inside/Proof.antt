@@ -2,7 +2,7 @@
 -- Assumes nothing.
 use mathlib.Core.Path.{sym}
 use borrow.Author.Rules.{rules}
-use Rattle.bytes.proofs.ByteLaws.{inside_past, inside_room}
+use Rattle.file_numbers.proofs.ByteLaws.{inside_past, inside_room}
 use Rattle.entries.proofs.inside.Statement.{statement}
 use Rattle.entries.proofs.inside.Tie as tie
 

@@ -3,7 +3,7 @@
 use mathlib.Core.Path.{sym, ap, ◌∙◌}
 use Prim.Native.Nat.{ℕ, ◌+◌}
 use borrow.Author.Rules.{rules}
-use Rattle.bytes.specs.Numbers.{number_at}
+use Rattle.file_numbers.specs.Numbers.{number_at}
 use Rattle.layout.proofs.TaskLaws.{goal_off_none, goal_off_some}
 use Rattle.layout.proofs.goal_off.Statement.{statement}
 use Rattle.layout.proofs.goal_off.Tie as tie

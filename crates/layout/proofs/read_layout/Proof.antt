@@ -5,7 +5,7 @@ use native.Mathlib.Omega.{arith}
 use Prim.Native.Nat.{ℕ, ◌+◌, ◌≤◌}
 use mathlib.Core.List.{List}
 use lib.ListN.{length}
-use Rattle.bytes.specs.Numbers.{number_at}
+use Rattle.file_numbers.specs.Numbers.{number_at}
 use Rattle.meaning.specs.declared.Limits.{Limits}
 use Rattle.meaning.specs.Layout.{goal_at, action_count_at}
 use Rattle.reader.specs.declared.TaskHead.{TaskHead}

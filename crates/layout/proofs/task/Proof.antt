@@ -6,7 +6,7 @@ use native.Mathlib.Nat.{mul-le-mul_right}
 use native.Mathlib.Omega.{arith}
 use mathlib.Core.List.{List}
 use lib.ListN.{length}
-use Rattle.bytes.specs.Numbers.{number_at}
+use Rattle.file_numbers.specs.Numbers.{number_at}
 use Rattle.meaning.specs.Layout.{items, count, mask, goal_at, off_size, action_count_at, action_size}
 use Rattle.meaning.proofs.Places.{places}
 use Rattle.bodies.specs.Faults.{fault}

@@ -5,7 +5,7 @@ use Prim.Native.Nat.{ℕ, ◌+◌, ◌*◌, ◌<◌}
 use native.Mathlib.Omega.{arith}
 use lib.ListN.{get_or}
 use borrow.Author.Rules.{rules}
-use Rattle.bytes.specs.Numbers.{number_at}
+use Rattle.file_numbers.specs.Numbers.{number_at}
 use Rattle.certificate.specs.Rows.{first_row, row_of}
 use Rattle.certificate.proofs.RowLaws.{row_none, row_some}
 use Rattle.membership.proofs.SearchLaws.{word_in}

@@ -4,8 +4,8 @@ use mir.Syntax.{w8}
 use contract.Running.{tables, tables_of}
 use denote.Triple.Table.{entered, cited}
 use Rattle.reader.proofs.ReadNumber.{OnSlice, OnReader, meets}
-use Rattle.bytes.proofs.byte_at.Symbol as byte_at
-use Rattle.bytes.proofs.byte_at.Met as byte-at-thm
+use Rattle.file_numbers.proofs.byte_at.Symbol as byte_at
+use Rattle.file_numbers.proofs.byte_at.Met as byte-at-thm
 use Rattle.reader.specs.contracts.byte.Key.{name as #byte}
 use Rattle.reader.proofs.byte.Statement as stated
 use Rattle.reader.proofs.byte.Code as code

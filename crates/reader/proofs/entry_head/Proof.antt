@@ -37,7 +37,7 @@ use denote.Triple.Spec.{Meets, triple_of}
 use denote.Triple.Table.{entered, cited}
 use denote.Triple.Walked.{says, Stays, stay_none, stay_none_slice, walk_of, Goes-none, Goes-none_slice, ends_at, walked, walk_Meets}
 use denote.Exit.{yes}
-use Rattle.bytes.specs.Numbers.{number_at}
+use Rattle.file_numbers.specs.Numbers.{number_at}
 use Rattle.reader.specs.declared.EntryHead.{EntryHead}
 use Rattle.reader.proofs.ReaderWalks.{mach, Own, token}
 use Rattle.reader.proofs.ReadNumber.{OnReader}

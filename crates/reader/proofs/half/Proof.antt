@@ -4,8 +4,8 @@ use mir.Syntax.{w16}
 use contract.Running.{tables, tables_of}
 use denote.Triple.Table.{entered, cited}
 use Rattle.reader.proofs.ReadNumber.{OnSlice, OnReader, meets}
-use Rattle.bytes.proofs.u16_at.Symbol as u16-at
-use Rattle.bytes.proofs.u16_at.Met as u16-at-thm
+use Rattle.file_numbers.proofs.u16_at.Symbol as u16-at
+use Rattle.file_numbers.proofs.u16_at.Met as u16-at-thm
 use Rattle.reader.specs.contracts.half.Key.{name as #half}
 use Rattle.reader.proofs.half.Statement as stated
 use Rattle.reader.proofs.half.Code as code

@@ -4,8 +4,8 @@ use mir.Syntax.{w64}
 use contract.Running.{tables, tables_of}
 use denote.Triple.Table.{entered, cited}
 use Rattle.reader.proofs.ReadNumber.{OnSlice, OnReader, meets}
-use Rattle.bytes.proofs.u64_at.Symbol as u64-at
-use Rattle.bytes.proofs.u64_at.Met as u64-at-thm
+use Rattle.file_numbers.proofs.u64_at.Symbol as u64-at
+use Rattle.file_numbers.proofs.u64_at.Met as u64-at-thm
 use Rattle.reader.specs.contracts.word.Key.{name as #word}
 use Rattle.reader.proofs.word.Statement as stated
 use Rattle.reader.proofs.word.Code as code

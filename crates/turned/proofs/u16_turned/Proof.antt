@@ -1,7 +1,7 @@
 -- `turned::u16_turned` meets its contract.
 -- Assumes nothing.
 use borrow.Author.Rules.{rules}
-use Rattle.bytes.proofs.ByteLaws.{number_two}
+use Rattle.file_numbers.proofs.ByteLaws.{number_two}
 use Rattle.turned.proofs.u16_turned.Statement.{statement}
 use Rattle.turned.proofs.u16_turned.Tie as tie
 

@@ -2,7 +2,7 @@
 -- Assumes nothing.
 use borrow.Author.Rules.{rules}
 use native.Mathlib.Omega.{arith}
-use Rattle.bytes.proofs.ByteLaws.{number_cat}
+use Rattle.file_numbers.proofs.ByteLaws.{number_cat}
 use Rattle.turned.proofs.TurnLaws.{turn_eight}
 use Rattle.turned.proofs.u64_turned.Statement.{statement}
 use Rattle.turned.proofs.u64_turned.Tie as tie

@@ -2,8 +2,8 @@
 -- Assumes nothing.
 use borrow.Author.Rules.{rules}
 use Prim.Native.Nat.{◌+◌, ◌*◌}
-use Rattle.bytes.specs.Numbers.{clause_at, number_at}
-use Rattle.bytes.proofs.ByteLaws.{number_in}
+use Rattle.file_numbers.specs.Numbers.{clause_at, number_at}
+use Rattle.file_numbers.proofs.ByteLaws.{number_in}
 use Rattle.words.proofs.HitLaws.{hit_misses, hit_body}
 use Rattle.words.specs.Words.{words_at}
 use Rattle.words.proofs.hit.Statement.{statement}

@@ -1,7 +1,7 @@
 -- `words::words_at` meets its contract.
 -- Assumes nothing.
 use Rattle.words.specs.Words.{words_at}
-use Rattle.bytes.specs.Numbers.{clause_at}
+use Rattle.file_numbers.specs.Numbers.{clause_at}
 use borrow.Author.Rules.{rules}
 use Rattle.words.proofs.words_at.Statement.{statement}
 use Rattle.words.proofs.words_at.Tie as tie

@@ -2,9 +2,9 @@
 -- Assumes nothing.
 use Prim.Native.Nat.{◌+◌, ◌*◌}
 use mathlib.Core.Path.{sym, ◌∙◌}
-use Rattle.bytes.specs.Numbers.{clause_at}
+use Rattle.file_numbers.specs.Numbers.{clause_at}
 use borrow.Author.Rules.{rules}
-use Rattle.bytes.proofs.ByteLaws.{number_in}
+use Rattle.file_numbers.proofs.ByteLaws.{number_in}
 use Rattle.words.specs.Words.{words_at}
 use Rattle.words.proofs.words_in.Statement.{statement}
 use Rattle.words.proofs.words_in.Tie as tie

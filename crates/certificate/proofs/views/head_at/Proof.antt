@@ -3,7 +3,7 @@
 use mathlib.Core.Path.{ap, ◌∙◌}
 use Prim.Native.Nat.{ℕ, ◌+◌, ◌-◌}
 use Rattle.certificate.specs.Views.{head_at}
-use Rattle.bytes.proofs.ByteLaws.{read_in}
+use Rattle.file_numbers.proofs.ByteLaws.{read_in}
 use borrow.Author.Rules.{rules}
 use Rattle.certificate.proofs.views.head_at.Statement.{statement}
 use Rattle.certificate.proofs.views.head_at.Tie as tie

@@ -3,7 +3,7 @@
 use Prim.Native.Nat.{ℕ, ◌+◌}
 use mathlib.Core.Path.{◌≡◌, sym}
 use Rattle.certificate.specs.Views.{step_read, step_of, judgement_of, clean_of}
-use Rattle.bytes.proofs.ByteLaws.{read_in}
+use Rattle.file_numbers.proofs.ByteLaws.{read_in}
 use borrow.Author.Rules.{rules}
 use Rattle.certificate.proofs.views.step_in.Statement.{statement}
 use Rattle.certificate.proofs.views.step_in.Tie as tie

@@ -5,7 +5,7 @@ use Prim.Native.Nat.{◌+◌, ◌≤◌}
 use lib.ListN.{length}
 use borrow.Author.Rules.{rules}
 use borrow.Author.Tests.{not-false}
-use Rattle.bytes.proofs.ByteLaws.{inside_out}
+use Rattle.file_numbers.proofs.ByteLaws.{inside_out}
 use Rattle.bodies.specs.Faults.{fault}
 use Rattle.bodies.proofs.FieldLaws.{mask_cut, mask_in, mask_high}
 use Rattle.layout.proofs.rows.mask.Statement.{statement}

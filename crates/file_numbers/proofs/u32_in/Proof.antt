@@ -1,10 +1,10 @@
 -- `bytes::u32_in` meets its contract.
 -- Assumes nothing.
 use mathlib.Core.Path.{sym, ◌∙◌}
-use Rattle.bytes.proofs.ByteLaws.{number_four}
+use Rattle.file_numbers.proofs.ByteLaws.{number_four}
 use borrow.Author.Rules.{rules}
-use Rattle.bytes.proofs.u32_in.Statement.{statement}
-use Rattle.bytes.proofs.u32_in.Tie as tie
+use Rattle.file_numbers.proofs.u32_in.Statement.{statement}
+use Rattle.file_numbers.proofs.u32_in.Tie as tie
 
 returns : tie.Need-returns
 returns c =

@@ -12,7 +12,7 @@ use lib.Dec.{leb}
 use lib.Seq.{drop-cons, drop-drop, take-add, length-take-le}
 use borrow.Author.Tests.{le-leb, lt-leb, leb-true}
 use Rattle.meaning.specs.Bytes.{big_endian, number, inside}
-use Rattle.bytes.specs.Numbers.{number_at}
+use Rattle.file_numbers.specs.Numbers.{number_at}
 
 -- ---- in the file, and past its end
 

@@ -2,9 +2,9 @@
 -- Assumes nothing.
 use borrow.Author.Rules.{rules}
 use mathlib.Core.Path.{sym, ◌∙◌}
-use Rattle.bytes.proofs.ByteLaws.{number_in, number_past, number_one}
-use Rattle.bytes.proofs.byte_at.Statement.{statement}
-use Rattle.bytes.proofs.byte_at.Tie as tie
+use Rattle.file_numbers.proofs.ByteLaws.{number_in, number_past, number_one}
+use Rattle.file_numbers.proofs.byte_at.Statement.{statement}
+use Rattle.file_numbers.proofs.byte_at.Tie as tie
 
 returns : tie.Need-returns
 returns c =

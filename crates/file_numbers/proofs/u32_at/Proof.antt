@@ -2,9 +2,9 @@
 -- Assumes nothing.
 use borrow.Author.Rules.{rules}
 use mathlib.Core.Path.{sym, ◌∙◌}
-use Rattle.bytes.proofs.ByteLaws.{number_in, number_past}
-use Rattle.bytes.proofs.u32_at.Statement.{statement}
-use Rattle.bytes.proofs.u32_at.Tie as tie
+use Rattle.file_numbers.proofs.ByteLaws.{number_in, number_past}
+use Rattle.file_numbers.proofs.u32_at.Statement.{statement}
+use Rattle.file_numbers.proofs.u32_at.Tie as tie
 
 returns : tie.Need-returns
 returns c = sym (number_past 4 c.before.before.args.file.now c.before.before.args.at (search rules))

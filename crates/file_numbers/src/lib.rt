@@ -1,7 +1,9 @@
 // Numbers of the file, big-endian. A number that runs past the end reads as 0, so that no caller owes a bound.
+#![tactic(auto)]
+
 ghost use Rattle.std.specs.Prelude.{◌≡◌, ◌+◌, ◌*◌, ◌≤◌, length};
 ghost use Rattle.meaning.specs.Bytes.{number};
-ghost use Rattle.bytes.specs.Numbers.{number_at};
+ghost use Rattle.file_numbers.specs.Numbers.{number_at};
 
 // Two or four bytes as a number. Eight are two of four: LLVM makes one load of that.
 fn two(a: u8, b: u8) -> u16

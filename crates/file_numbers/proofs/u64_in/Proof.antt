@@ -2,9 +2,9 @@
 -- Assumes nothing.
 use borrow.Author.Rules.{rules}
 use native.Mathlib.Omega.{arith}
-use Rattle.bytes.proofs.ByteLaws.{number_cat}
-use Rattle.bytes.proofs.u64_in.Statement.{statement}
-use Rattle.bytes.proofs.u64_in.Tie as tie
+use Rattle.file_numbers.proofs.ByteLaws.{number_cat}
+use Rattle.file_numbers.proofs.u64_in.Statement.{statement}
+use Rattle.file_numbers.proofs.u64_in.Tie as tie
 
 returns : tie.Need-returns
 returns c =
