@@ -2,12 +2,9 @@
 -- Assumes nothing.
 use borrow.Author.Rules.{rules}
 use Rattle.task.proofs.Names.{init_code}
-use Rattle.task.proofs.is_init.Statement.{statement}
-use Rattle.task.proofs.is_init.Tie as tie
 
-returns : tie.Need-returns
+use Rattle.task.proofs.is_init.Goals as goal
+
+pub returns : goal.returns
 returns c =
     let a = c.before.before.before.args in init_code 64 a.ends a.state (search rules) (search rules) (search rules)
-
-pub is-init-spec : {M : Type 1} → statement M
-is-init-spec = tie.close (tie.spec returns)
