@@ -5,12 +5,9 @@ use borrow.Author.Rules.{rules}
 use Rattle.numbers.specs.declared.RuleNumber.{RuleNumber}
 use Rattle.numbers.specs.Numbers.{rule_table, premises_of}
 use Rattle.numbers.proofs.TwoBits.{in_word}
-use Rattle.numbers.proofs.RuleNumber.premises.Statement.{statement}
-use Rattle.numbers.proofs.RuleNumber.premises.Tie as tie
 
-returns : tie.Need-returns
+use Rattle.numbers.proofs.RuleNumber.premises.Goals as goal
+
+pub returns : goal.returns
 unfolding premises_of rule_table
 returns c = in_word _ (λ (r : RuleNumber). r.0) refl tt _ _ c.two_bits.ensures
-
-pub premises-spec : {M : Type 1} → statement M
-premises-spec = tie.close (tie.spec (λ c κs. search rules) returns)

@@ -3,13 +3,10 @@
 use mathlib.Core.Path.{sym, ◌∙◌}
 use Rattle.file_numbers.proofs.ByteLaws.{number_two}
 use borrow.Author.Rules.{rules}
-use Rattle.file_numbers.proofs.u16_in.Statement.{statement}
-use Rattle.file_numbers.proofs.u16_in.Tie as tie
 
-returns : tie.Need-returns
+use Rattle.file_numbers.proofs.u16_in.Goals as goal
+
+pub returns : goal.returns
 returns c =
     let a = c.before.before.before.before.args in
     c.two.ensures ∙ sym (number_two a.file.now a.at (search rules))
-
-pub u16-in-spec : {M : Type 1} → statement M
-u16-in-spec = tie.close (tie.spec (λ c. search rules) (λ c. search rules) (λ c. search rules) (λ c κs. search rules) returns)
