@@ -6,7 +6,7 @@ use native.Mathlib.Omega.{arith}
 use mathlib.Core.Bool.{Bool, true, false, not}
 use mathlib.Core.List.{List}
 use lib.ListN.{length}
-use borrow.Author.Tests.{le-leb, lt-leb, not_true, not-false}
+use borrow.Author.Tests.{le-leb, lt-leb, not-true, not-false}
 use Rattle.bodies.specs.declared.Form.{Form}
 use Rattle.bodies.specs.declared.Fault.{Fault}
 use Rattle.bodies.specs.declared.Fault.TheVariants.{None, At}
@@ -104,7 +104,7 @@ module _ (part : List ℕ) (n : ℕ) (two : Bool) (start : ℕ) where
           second = mask_in part (16 * i + 8) top n t e' w' (omega arith) g'
 
           pub clause_rule_lem : not r ≡ true → At 7 (start + 16 * i) ≡ fault_from start (items R 16 0 count)
-          clause_rule_lem s = stop (clause_bad part (16 * i) n (clause_rule two) first second (sym q ∙ not_true r s))
+          clause_rule_lem s = stop (clause_bad part (16 * i) n (clause_rule two) first second (sym q ∙ not-true r s))
 
           pub clause_next : not r ≡ false → ClausesLeft part n two count (i + 1)
           clause_next s =

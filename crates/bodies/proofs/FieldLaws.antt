@@ -5,7 +5,7 @@ use Prim.Native.Nat.{ℕ, ◌+◌, ◌-◌, ◌^◌, ◌≤◌, ◌<◌, min}
 use mathlib.Core.Bool.{Bool, true, false, not}
 use mathlib.Core.List.{List}
 use lib.ListN.{length}
-use borrow.Author.Tests.{le-leb, lt-leb, lt-ltb, le-ltb, not_true}
+use borrow.Author.Tests.{le-leb, lt-leb, lt-ltb, le-ltb, not-true}
 use Rattle.meaning.specs.Result.{refuse, found}
 use Rattle.meaning.specs.Bytes.{inside}
 use Rattle.file_numbers.specs.Numbers.{number_at}
@@ -35,7 +35,7 @@ module _ (f : List ℕ) (p : ℕ) where
 
   pub mask_cut : (n : ℕ) {t : Bool} → t ≡ inside 8 f p → not t ≡ true → mask f n p ≡ refuse 3 p
   unfolding mask field
-  mask_cut n {t} q s = stops _ (failed 3 p _ (sym q ∙ not_true t s))
+  mask_cut n {t} q s = stops _ (failed 3 p _ (sym q ∙ not-true t s))
 
   -- a reference x
   module _ (bound : ℕ) {x : ℕ} (e : x ≡ number_at 2 f p) (h : p + 2 ≤ length f) where

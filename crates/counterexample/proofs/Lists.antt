@@ -6,7 +6,7 @@ use mathlib.Core.Logic.{◌↔◌}
 use Prim.Native.Nat.{ℕ, zero, suc, ◌<◌}
 use native.Mathlib.Nat.{not-suc-le-zero, le_of_suc-le-suc}
 use native.Mathlib.Omega.{arith}
-use mathlib.Core.Bool.{Bool, true, false, not, ◌&&◌, ◌||◌, and_assoc, or_assoc, and_true, or-false}
+use mathlib.Core.Bool.{Bool, true, false, not, ◌&&◌, ◌||◌, and_assoc, or_assoc, and-true, or-false}
 use mathlib.Core.List.{List, [], ◌∷◌, ◌++◌, map}
 use lib.ListN.{length, get_or}
 use lib.Dec.{T}
@@ -22,7 +22,7 @@ any t (x ∷ xs) = t x || any t xs
 module _ {A : Type 0} (t : A → Bool) where
   pub every_one : (x : A) → every t (x ∷ []) ≡ t x
   unfolding every
-  every_one x = and_true (t x)
+  every_one x = and-true (t x)
 
   pub any_one : (x : A) → any t (x ∷ []) ≡ t x
   unfolding any

@@ -7,7 +7,7 @@ use native.Mathlib.Omega.{arith}
 use mathlib.Core.Bool.{Bool, true, false, not}
 use mathlib.Core.List.{List}
 use lib.ListN.{length, take, drop, get_elem?}
-use borrow.Author.Tests.{le-leb, lt-leb, not_true, not-false}
+use borrow.Author.Tests.{le-leb, lt-leb, not-true, not-false}
 use Rattle.bodies.specs.declared.Form.{Form}
 use Rattle.bodies.specs.declared.Fault.{Fault}
 use Rattle.bodies.specs.declared.Fault.TheVariants.{At}
@@ -70,12 +70,12 @@ module _ (bytes : List ℕ) (n : ℕ) {A : Type 0} (kinds : List (Kind A)) (form
   module _ {t : Bool} (q : t ≡ inside 2 bytes p) where
     pub entry_cut : not t ≡ true → At 3 p ≡ fault (entry bytes kinds p)
     unfolding entry field
-    entry_cut s = refused (stops _ (failed 3 p _ (sym q ∙ not_true t s)))
+    entry_cut s = refused (stops _ (failed 3 p _ (sym q ∙ not-true t s)))
 
     pub entry_past : not t ≡ false → {len : ℕ} → len ≡ number_at 2 bytes p → {u : Bool} → u ≡ inside (2 + len) bytes p → not u ≡ true
         → At 3 p ≡ fault (entry bytes kinds p)
     unfolding entry
-    entry_past s e {u} q' s' = refused (goes_on _ (len_read bytes p q s e) ∙ failed 3 p _ (sym q' ∙ not_true u s'))
+    entry_past s e {u} q' s' = refused (goes_on _ (len_read bytes p q s e) ∙ failed 3 p _ (sym q' ∙ not-true u s'))
 
   module _ {len : ℕ} (b : Begun bytes p len) where
     pub entry_none : len < 1 → At 4 p ≡ fault (entry bytes kinds p)
@@ -89,7 +89,7 @@ module _ (bytes : List ℕ) (n : ℕ) {A : Type 0} (kinds : List (Kind A)) (form
         refused
         (goes_on _ b.read ∙ passed 3 p _ b.whole ∙ passed 4 p _ (le-leb 1 len l)
         ∙ no_known 4 (p + 2) _ (no_kind bytes n kinds forms alike (number 1 bytes (p + 2)) (ap form_known (kind_read b forms l e ef)
-        ∙ sym qv ∙ not_true v x)))
+        ∙ sym qv ∙ not-true v x)))
 
     module _ {f : Form} (k : Kinded bytes forms p len f) {w : Bool} (qw : w ≡ form_fits f (len - 1)) where
       the_kind : (k : Kind A) × (get_elem? kinds (number 1 bytes (p + 2)) ≡ some k) × Same bytes n k (form_at forms (number 1 bytes (p + 2)))
@@ -103,7 +103,7 @@ module _ (bytes : List ℕ) (n : ℕ) {A : Type 0} (kinds : List (Kind A)) (form
       entry_unfit y =
           refused
           (goes_on _ b.read ∙ passed 3 p _ b.whole ∙ passed 4 p _ (le-leb 1 len k.some_bytes)
-          ∙ is_known 4 (p + 2) _ the_kind.1 ∙ failed 4 p _ (fits_same ∙ not_true w y))
+          ∙ is_known 4 (p + 2) _ the_kind.1 ∙ failed 4 p _ (fits_same ∙ not-true w y))
 
       -- it is whole, its kind is known, and its length fits: its limits and its body are left
       entry_left : not w ≡ false
@@ -127,7 +127,7 @@ module _ (bytes : List ℕ) (n : ℕ) {A : Type 0} (kinds : List (Kind A)) (form
         allows_same = the_kind.2.allows (len - 1) ∙ ap (λ (g : Form). form_allows g (len - 1)) k.kind ∙ sym qv
 
         pub entry_over : not w ≡ false → not v ≡ true → At 19 p ≡ fault (entry bytes kinds p)
-        entry_over y z = refused (entry_left y ∙ failed 19 p _ (allows_same ∙ not_true v z))
+        entry_over y z = refused (entry_left y ∙ failed 19 p _ (allows_same ∙ not-true v z))
 
         entry_is : not w ≡ false → not v ≡ false → entry bytes kinds p ≡ the_kind.0.body (p + 3) (len - 1)
         entry_is y z = entry_left y ∙ passed 19 p _ (allows_same ∙ not-false v z)

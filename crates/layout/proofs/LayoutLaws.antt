@@ -7,7 +7,7 @@ use mathlib.Core.Bool.{Bool, true, false, not, ◌&&◌}
 use mathlib.Core.List.{List}
 use lib.ListN.{length}
 use lib.Dec.{T, leb, eqb, leb→le}
-use borrow.Author.Tests.{not_true, not-false}
+use borrow.Author.Tests.{not-true, not-false}
 use Rattle.task.specs.Inner.{ends_of}
 use Rattle.task.specs.Task.{Task}
 use Rattle.task.specs.declared.Ends.{Ends}
@@ -92,7 +92,7 @@ module _ (l : Limits) (bytes : List ℕ) {w : Bool} (ew : w ≡ is_whole bytes) 
       go true g =
           sym (ap (outline_to bytes) (passed 1 0 _ g ∙ failed 1 0 _ (ap (λ (x : ℕ). eqb (x + 4) (length bytes))
           (length_read (leb→le 4 (length bytes) (and_left (leb 4 (length bytes)) (leb (length bytes) 65536) (holds g))))
-          ∙ ap (λ (b : Bool). b && eqb (number_at 4 bytes 0 + 4) (length bytes)) (sym g) ∙ sym ew ∙ not_true w s)))
+          ∙ ap (λ (b : Bool). b && eqb (number_at 4 bytes 0 + 4) (length bytes)) (sym g) ∙ sym ew ∙ not-true w s)))
 
   module _ (s : not w ≡ false) where
     both : T (leb 4 (length bytes) && leb (length bytes) 65536) × T (eqb (number_at 4 bytes 0 + 4) (length bytes))
@@ -117,7 +117,7 @@ module _ (l : Limits) (bytes : List ℕ) {w : Bool} (ew : w ≡ is_whole bytes) 
       pub length_over : not u ≡ true → Refused 19 0 ≡ outline_of l bytes
       unfolding outline_of outline_to read_within
       length_over z =
-          sym (ap (outline_to bytes) (passed 1 0 _ length_good ∙ passed 1 0 _ length_same ∙ failed 19 0 _ (sym eu ∙ not_true u z)))
+          sym (ap (outline_to bytes) (passed 1 0 _ length_good ∙ passed 1 0 _ length_same ∙ failed 19 0 _ (sym eu ∙ not-true u z)))
 
       module _ (z : not u ≡ false) where
         -- the reading behind the tests of the length

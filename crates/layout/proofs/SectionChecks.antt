@@ -7,7 +7,7 @@ use mathlib.Core.Bool.{Bool, true, false, not, ◌&&◌}
 use mathlib.Core.List.{List}
 use lib.ListN.{length}
 use lib.Dec.{leb, leb→le}
-use borrow.Author.Tests.{le-leb, lt-leb, not_true, not-false}
+use borrow.Author.Tests.{le-leb, lt-leb, not-true, not-false}
 use Rattle.bodies.specs.declared.Fault.{Fault}
 use Rattle.layout.specs.declared.rows.Walked.{Walked}
 use Rattle.bodies.specs.declared.Fault.TheVariants.{None, At}
@@ -42,7 +42,7 @@ module _ (bytes : List ℕ) (low high p : ℕ) where
   module _ {t : Bool} (q : t ≡ inside 2 bytes p) where
     pub count_cut : not t ≡ true → At 3 p ≡ fault (count bytes low high p)
     unfolding count field
-    count_cut s = told_refused (count bytes low high p) 3 p (ap forget (stops _ (failed 3 p _ (sym q ∙ not_true t s))))
+    count_cut s = told_refused (count bytes low high p) 3 p (ap forget (stops _ (failed 3 p _ (sym q ∙ not-true t s))))
 
     module _ (s : not t ≡ false) {c : ℕ} (e : c ≡ number_at 2 bytes p) where
       read : field bytes 2 p ≡ found c

@@ -9,7 +9,7 @@ use mathlib.Core.List.{List, [], ◌∷◌}
 use lib.ListN.{length}
 use lib.Bits.{bit_and}
 use lib.Dec.{leb, ltb, eqb}
-use borrow.Author.Tests.{eq-eqb, ne_eqb, not_true, not-false}
+use borrow.Author.Tests.{eq-eqb, ne_eqb, not-true, not-false}
 use Rattle.task.specs.Task.{Task}
 use Rattle.bodies.specs.declared.Fault.{Fault}
 use Rattle.bodies.specs.declared.Fault.TheVariants.{None, At}
@@ -150,7 +150,7 @@ module _ (bytes : List ℕ) {t : Bool} (q : t ≡ inside 1 bytes 4) where
 
   pub version_cut : not t ≡ true → At 3 4 ≡ fault (facts_at bytes)
   unfolding facts_at field
-  version_cut s = refused (stops _ (failed 3 4 _ (sym q ∙ not_true t s)))
+  version_cut s = refused (stops _ (failed 3 4 _ (sym q ∙ not-true t s)))
 
   module _ (s : not t ≡ false) {v : ℕ} (ev : v ≡ number_at 1 bytes 4) where
     version_read : field bytes 1 4 ≡ found v
@@ -158,14 +158,14 @@ module _ (bytes : List ℕ) {t : Bool} (q : t ≡ inside 1 bytes 4) where
 
     pub version_other : not (leb 1 v && leb v 3) ≡ true → At 2 4 ≡ fault (facts_at bytes)
     unfolding facts_at
-    version_other g = refused (goes_on _ version_read ∙ failed 2 4 _ (not_true (leb 1 v && leb v 3) g))
+    version_other g = refused (goes_on _ version_read ∙ failed 2 4 _ (not-true (leb 1 v && leb v 3) g))
 
     module _ (g : not (leb 1 v && leb v 3) ≡ false) {u : Bool} (q' : u ≡ inside 1 bytes 5) where
       pub facts_cut : not u ≡ true → At 3 5 ≡ fault (facts_at bytes)
       unfolding facts_at field
       facts_cut s' =
           refused (goes_on _ version_read ∙ passed 2 4 _ (not-false (leb 1 v && leb v 3) g)
-          ∙ stops _ (failed 3 5 _ (sym q' ∙ not_true u s')))
+          ∙ stops _ (failed 3 5 _ (sym q' ∙ not-true u s')))
 
       module _ (s' : not u ≡ false) {n : ℕ} (en : n ≡ number_at 1 bytes 5) where
         facts_read : field bytes 1 5 ≡ found n
@@ -175,7 +175,7 @@ module _ (bytes : List ℕ) {t : Bool} (q : t ≡ inside 1 bytes 4) where
         unfolding facts_at
         facts_bad x =
             refused (goes_on _ version_read ∙ passed 2 4 _ (not-false (leb 1 v && leb v 3) g) ∙ goes_on _ facts_read
-            ∙ failed 4 5 _ (not_true (leb 1 n && leb n 64) x))
+            ∙ failed 4 5 _ (not-true (leb 1 n && leb n 64) x))
 
         pub facts_good : not (leb 1 n && leb n 64) ≡ false → None ≡ fault (facts_at bytes)
         unfolding facts_at
@@ -241,13 +241,13 @@ module _ (bytes : List ℕ) (v n : ℕ) where
       → w ≡ fault (start_at bytes v n)
   unfolding start_at unknown_mask ◌>>=◌
   start_one {t} e h i =
-      let z : eqb v 1 ≡ true = not-false (eqb v 1) (sym e ∙ not_true t h) in
+      let z : eqb v 1 ≡ true = not-false (eqb v 1) (sym e ∙ not-true t h) in
       i ∙ told (items (mask bytes n) 8 6 1) (start_at bytes v n)
       (one_mask (mask bytes n) 6 ∙ sym (rw (start_at, unknown_mask, z) (forget_after (mask bytes n 6) (λ s. (s, 0)))))
 
   module _ {t : Bool} (e : t ≡ not (eqb v 1)) (h : not t ≡ false) {w : Fault} (i : w ≡ fault (items (mask bytes n) 8 6 2)) where
     later : eqb v 1 ≡ false
-    later = not_true (eqb v 1) (sym e ∙ not-false t h)
+    later = not-true (eqb v 1) (sym e ∙ not-false t h)
 
     -- both masks, one after the other
     then : start_at bytes v n

@@ -6,7 +6,7 @@ use mathlib.Core.Bool.{Bool, true, false, not, ◌&&◌}
 use mathlib.Core.List.{List}
 use lib.ListN.{length}
 use lib.Dec.{T, ltb, ltb→lt, leb}
-use borrow.Author.Tests.{lt-ltb, le-ltb, not_true, not-false}
+use borrow.Author.Tests.{lt-ltb, le-ltb, not-true, not-false}
 use Rattle.task.specs.declared.Ends.{Ends}
 use Rattle.task.specs.Inner.{ends_of}
 use Rattle.task.proofs.MaskLaws.{within_all}
@@ -59,11 +59,11 @@ module _ (bytes : List ℕ) (at : Places) (k : Placed bytes at) (e s : ℕ) wher
         let C : Bool = not (has_progression f e) in
         let t : T (A && B && C) = and_left (A && B && C) (leb (depth f e) 4) (holds (yes_asked n)) in
         let l : e < length f.state_sets = ltb→lt e (length f.state_sets) (and_left A B (and_left (A && B) C t)) in
-        (rw (placed_state_sets bytes at k) l, not_true (has_progression f e) (is_true C (and_right (A && B) C t)))
+        (rw (placed_state_sets bytes at k) l, not-true (has_progression f e) (is_true C (and_right (A && B) C t)))
 
     pub refused : not r ≡ true → Refused 13 0 ≡ answer_in f e s
     unfolding answer_in answer_to need ◌>>=◌
-    refused n = rw (← q, not_true r n) refl
+    refused n = rw (← q, not-true r n) refl
 
     pub answered : not r ≡ false → (d : Bool) → d ≡ in_set f e s → (b : Bool) → d ≡ b → answer_to (found b) ≡ answer_in f e s
     unfolding answer_in need ◌>>=◌

@@ -3,7 +3,7 @@
 use mathlib.Core.Path.{◌≡◌, refl, sym, ap, ap₂, ◌∙◌, subst}
 use mathlib.Core.Logic.{inl, inr}
 use Prim.Native.Nat.{ℕ}
-use mathlib.Core.Bool.{Bool, true, false, not, ◌||◌, and_true}
+use mathlib.Core.Bool.{Bool, true, false, not, ◌||◌, and-true}
 use mathlib.Core.List.{List, [], ◌∷◌, ◌++◌, map}
 use lib.Dec.{T, eqb, eqb→eq, leb}
 use Rattle.task.specs.Reach.{every}
@@ -50,7 +50,7 @@ module _ (f : File) where
 
   wants_side : (t : Bool) (e : ℕ) → wants f t true e ≡ on_side f t e
   unfolding wants
-  wants_side t e = and_true (on_side f t e)
+  wants_side t e = and-true (on_side f t e)
 
   picked_plain : (h : Bool) (es : List ℕ) → picked f false true h es ≡ map (leaf h) (plain f es)
   unfolding picked entry_of on_side

@@ -8,7 +8,7 @@ use mathlib.Core.Option.{some}
 use mathlib.Core.List.{List}
 use lib.ListN.{length}
 use lib.Dec.{T, ltb, ltb→lt}
-use borrow.Author.Tests.{not_true, not-false}
+use borrow.Author.Tests.{not-true, not-false}
 use Rattle.meaning.specs.Result.{Result, refuse, found, ◌>>=◌, need}
 use Rattle.meaning.specs.File.{File}
 use Rattle.meaning.specs.declared.Limits.{Limits}
@@ -101,7 +101,7 @@ module _ (from count n : ℕ) {b : Bool} (told : b ≡ (lawful_count count && lt
   module _ (bytes : List ℕ) (f : File) (read : read_file bytes ≡ found f) (steps : n ≡ length f.steps) where
     pub unlawful_round : not b ≡ true → round.Refused 17 0 ≡ round_of bytes from count
     unfolding round_of check_round need ◌>>=◌ round_to
-    unlawful_round h = rw (read, sym steps, sym told ∙ not_true b h) refl
+    unlawful_round h = rw (read, sym steps, sym told ∙ not-true b h) refl
 
     below : not b ≡ false → from < length f.steps
     below h = let l = lawful_place h in omega arith

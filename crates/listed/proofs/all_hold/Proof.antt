@@ -6,7 +6,7 @@ use mathlib.Core.Logic.{⊎_elim}
 use mathlib.Core.Bool.{true, ◌||◌}
 use lib.Dec.{eqb}
 use borrow.Author.Rules.{rules}
-use borrow.Author.Tests.{eq-eqb, ne_eqb, not_true, not-false}
+use borrow.Author.Tests.{eq-eqb, ne_eqb, not-true, not-false}
 use Rattle.meaning.specs.Sets.{all_below}
 use Rattle.listed.specs.Search.{holds_one}
 use Rattle.membership.proofs.LoopLaws.{all_none, all_more, all_fails, all_done}
@@ -38,7 +38,7 @@ returns c =
     let v = c.before.before in
     all_fails _ _ v.before.before.before.loop.j (search rules)
     (rw (ne_eqb _ _ v.before.if1.true)
-    (tested _ _ _ _ _ _ v.leaf_at_lem.ensures c.before.holds-one.ensures ∙ not_true _ c.if2.true))
+    (tested _ _ _ _ _ _ v.leaf_at_lem.ensures c.before.holds-one.ensures ∙ not-true _ c.if2.true))
 
 loop-again : tie.Need-loop-preserved invariant-loop decreases-loop
 loop-again c = (

@@ -5,7 +5,7 @@ use lib.Bits.{bit_and, bit_or}
 use lib.Dec.{T}
 use Prim.Native.Nat.{◌-◌, ◌^◌}
 use borrow.Author.Rules.{rules}
-use borrow.Author.Tests.{not_true}
+use borrow.Author.Tests.{not-true}
 use Rattle.listed.specs.Search.{Split}
 use Rattle.listed.proofs.InitialLaws.{split_code, top_applies}
 use Rattle.listed.proofs.ShownLaws.{shows_applies}
@@ -30,7 +30,7 @@ returns c =
     let a = (start v).args in (
       (λ x. absurd x),
       (λ (s, i, h).
-          subst T (sym v.applies.ensures ∙ not_true _ c.if1.true)
+          subst T (sym v.applies.ensures ∙ not-true _ c.if1.true)
           (top_applies a.ends a.a _ _ _ (split v) s i (shows_applies _ _ _ _ _ _ _ _ s h))),
     )
 

@@ -5,7 +5,7 @@ use mathlib.Core.Path.{◌≡◌, ap, sym, ◌∙◌}
 use mathlib.Core.Bool.{Bool, true}
 use mathlib.Core.List.{List}
 use borrow.Author.Rules.{rules}
-use borrow.Author.Tests.{not_true, not-false}
+use borrow.Author.Tests.{not-true, not-false}
 use Rattle.meaning.specs.Sets.{all_below, meets}
 use Rattle.words.specs.Words.{words_at}
 use Rattle.membership.proofs.LoopLaws.{all_none, all_more, all_fails, all_done}
@@ -33,7 +33,7 @@ tested : (c : tie.After-meets invariant-loop decreases-loop) → let v = c.befor
 tested c = ap (meets _) (sym c.before.words-in.ensures) ∙ sym c.meets.ensures
 
 returns : tie.Need-returns invariant-loop decreases-loop
-returns c = all_fails _ _ c.before.before.before.before.loop.i (search rules) (tested c.before ∙ not_true _ c.if1.true)
+returns c = all_fails _ _ c.before.before.before.before.loop.i (search rules) (tested c.before ∙ not-true _ c.if1.true)
 
 loop-again : tie.Need-loop-preserved invariant-loop decreases-loop
 loop-again c =

@@ -6,7 +6,7 @@ use native.Mathlib.Omega.{arith}
 use lib.ListN.{length}
 use lib.Dec.{T}
 use borrow.Author.Rules.{rules}
-use borrow.Author.Tests.{not_true, not-false}
+use borrow.Author.Tests.{not-true, not-false}
 use Rattle.task.proofs.Tests.{holds}
 use Rattle.certificate.specs.declared.Span.{Span}
 use Rattle.certificate.specs.Rows.{AllAscend}
@@ -38,7 +38,7 @@ returns c =
     let s = d.before.before.before.before.before in
     let b = c.before.ascends.result in
     up_fails s.args.file.now s.args.index.now d.before.loop-test.true d.states-at.ensures
-    (λ up. subst T {x = b} (not_true b c.if1.true) (c.before.ascends.ensures.1 up))
+    (λ up. subst T {x = b} (not-true b c.if1.true) (c.before.ascends.ensures.1 up))
 
 loop-again : tie.Need-loop-preserved invariant-loop decreases-loop
 loop-again c =
