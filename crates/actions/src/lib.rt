@@ -48,7 +48,7 @@ fn with_listed(file: &[u8], span: Span, words: [u64; 4]) -> [u64; 4]
 }
 
 // What is found of an action set, and the entries that are still to be looked at.
-#[derive(Drop)]
+#[derive(Clone, Copy)]
 struct Search {
     wanted: [u64; 4],
     found: [u64; 4],

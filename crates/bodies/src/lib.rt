@@ -11,14 +11,14 @@ use file_numbers::{u16_at, u64_at};
 use task::all_facts;
 
 // What a reader says: no fault, or document 01's number and place.
-#[derive(Drop)]
+#[derive(Clone, Copy)]
 pub enum Fault {
     None,
     At { number: u8, place: u32 },
 }
 
 // What an entry's body holds, by its kind. Of states, how many a check's limits allow.
-#[derive(Drop)]
+#[derive(Clone, Copy)]
 pub enum Form {
     Unknown,
     Bare,

@@ -12,7 +12,7 @@ pub mod views;
 pub type Index = [u16; 8961];
 
 // The task's ends, how many of each part a file has, and where the parts after the actions start.
-#[derive(Drop)]
+#[derive(Clone, Copy)]
 pub struct Places {
     pub ends: Ends,
     pub actions: u16,
@@ -25,21 +25,21 @@ pub struct Places {
 }
 
 // What the layout check finds: the refusal number, 1 to 7, 16 or 19, and place; or where everything is.
-#[derive(Drop)]
+#[derive(Clone, Copy)]
 pub enum Outline {
     Refused { number: u8, place: u32 },
     Lawful(Places),
 }
 
 // Items in a body: where the first of them stands, and how many there are.
-#[derive(Drop)]
+#[derive(Clone, Copy)]
 pub struct Span {
     pub at: u32,
     pub count: u16,
 }
 
 // The task's actions: where the first of them stands, how many bytes each has, and how many there are.
-#[derive(Drop)]
+#[derive(Clone, Copy)]
 pub struct Actions {
     pub at: u32,
     pub size: u8,
@@ -47,7 +47,7 @@ pub struct Actions {
 }
 
 // An action set, kinds 0 to 2.
-#[derive(Drop)]
+#[derive(Clone, Copy)]
 pub enum ActionEntry {
     All,
     Listed(Span),
@@ -55,7 +55,7 @@ pub enum ActionEntry {
 }
 
 // A state set of kinds 0 to 5, which names no other.
-#[derive(Drop)]
+#[derive(Clone, Copy)]
 pub enum BasicEntry {
     Empty,
     Init,
@@ -66,7 +66,7 @@ pub enum BasicEntry {
 }
 
 // A state set, kinds 0 to 10.
-#[derive(Drop)]
+#[derive(Clone, Copy)]
 pub enum StateEntry {
     Basic(BasicEntry),
     Complement(u16),
@@ -77,7 +77,7 @@ pub enum StateEntry {
 }
 
 // What a step says, kinds 0 to 3: a set is dead, a state set is within another, an action set is, or the task is unsolvable.
-#[derive(Drop)]
+#[derive(Clone, Copy)]
 pub enum Judgement {
     Dead(u16),
     Within(u16, u16),
@@ -86,7 +86,7 @@ pub enum Judgement {
 }
 
 // The numbers of the steps that are a step's premises; 0 where its rule has fewer.
-#[derive(Drop)]
+#[derive(Clone, Copy)]
 pub struct Premises {
     pub first: u16,
     pub second: u16,
@@ -95,7 +95,7 @@ pub struct Premises {
 
 // A step: its rule's number, what it says, and its premises. It is clean where its judgement kind is one of 0 to 3 and the entry
 // places that this kind does not use are zero.
-#[derive(Drop)]
+#[derive(Clone, Copy)]
 pub struct Step {
     pub rule: u8,
     pub judgement: Judgement,
@@ -104,7 +104,7 @@ pub struct Step {
 }
 
 // What is replied to a step: it passed, or document 01's refusal number, 8 to 11; the place is the step's number.
-#[derive(Drop)]
+#[derive(Clone, Copy)]
 pub enum StepReply {
     Passed,
     Refused(u8),

@@ -8,7 +8,7 @@ use file_numbers::{byte_in, u16_at, u16_in, u64_at};
 use task::Action;
 
 // The numbers of an entry: its kind, where its body starts and how long it is, and the two numbers that start the body.
-#[derive(Drop)]
+#[derive(Clone, Copy)]
 pub struct Head {
     pub kind: u8,
     pub at: u32,

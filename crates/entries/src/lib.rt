@@ -12,7 +12,7 @@ use reader::entry_head;
 
 // A section: the state sets over so many facts, or the action sets; how many action sets, or actions, their entries may name; and how
 // many states an explicit set may list.
-#[derive(Drop)]
+#[derive(Clone, Copy)]
 pub struct Section {
     pub states: bool,
     pub facts: u8,

@@ -20,7 +20,7 @@ use shapes::shape::gather;
 use task::{Action, Ends, few_unknown};
 
 // What is found of a basic statement. Document 01 replies 11 to what is untrue and 10 to a shape that is not permitted.
-#[derive(Drop)]
+#[derive(Clone, Copy)]
 pub enum Verdict {
     Holds,
     Untrue,

@@ -9,7 +9,7 @@ use certificate::BasicEntry;
 use leaves::{kind_of, leaf_at};
 
 // What is known of a statement once its leaves stand in the two arrays.
-#[derive(Drop)]
+#[derive(Clone, Copy)]
 pub struct Gathered {
     pub permitted: bool,
     // Some leaf is explicit; else all are of clauses.
@@ -25,7 +25,7 @@ pub struct Gathered {
 }
 
 // How many leaves the arrays hold: on the left outside the bracket, on the left, on the right.
-#[derive(Drop)]
+#[derive(Clone, Copy)]
 pub struct Counts {
     pub outside: u32,
     pub left: u32,
@@ -33,7 +33,7 @@ pub struct Counts {
 }
 
 // Whether leaves of kinds 3, 4 and 5 stand on the left and on the right.
-#[derive(Drop)]
+#[derive(Clone, Copy)]
 pub struct Flags {
     pub l3: bool,
     pub l4: bool,

@@ -26,7 +26,7 @@ use versions::{
 mod rows;
 
 // What is said of what follows the actions: the places after the action sets and after the state sets, or the first fault.
-#[derive(Drop)]
+#[derive(Clone, Copy)]
 enum Rest {
     After { action_sets: u32, state_sets: u32 },
     Refused { number: u8, place: u32 },

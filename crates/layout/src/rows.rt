@@ -12,7 +12,7 @@ use task::all_facts;
 
 // What the items are: masks over so many facts, the entries of a section, or so many steps. Since each step has 12 bytes, they are
 // one item together: the reader is past all of them in one stride.
-#[derive(Drop)]
+#[derive(Clone, Copy)]
 pub(crate) enum Row {
     Masks(u8),
     Entries(Section),
@@ -20,7 +20,7 @@ pub(crate) enum Row {
 }
 
 // What is seen of an item: its fault, or how many bytes it takes. And how many items are left: none after a fault.
-#[derive(Drop)]
+#[derive(Clone, Copy)]
 struct Item {
     fault: Fault,
     size: usize,
@@ -28,14 +28,14 @@ struct Item {
 }
 
 // Where a walk stops: after its last item, or at the first one at fault.
-#[derive(Drop)]
+#[derive(Clone, Copy)]
 pub(crate) struct Stop {
     pub fault: Fault,
     pub place: u32,
 }
 
 // What is said of items one after the other: the place after them, or the first fault.
-#[derive(Drop)]
+#[derive(Clone, Copy)]
 pub(crate) enum Walked {
     After(u32),
     Refused { number: u8, place: u32 },

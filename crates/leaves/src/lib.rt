@@ -8,7 +8,7 @@ ghost use Rattle.leaves.specs.Leaves.{kind_of, items_of, basic_of, flag, word_le
 use certificate::{BasicEntry, Span};
 
 // A state set, and whether it is asked about the state after the action or about the one before it.
-#[derive(Drop)]
+#[derive(Clone, Copy)]
 pub struct Leaf {
     pub set: BasicEntry,
     pub after: bool,

@@ -3,14 +3,14 @@
 #![tactic(auto)]
 
 // A clause: some positive fact is on, or some negative fact is off.
-#[derive(Drop)]
+#[derive(Clone, Copy)]
 pub struct Clause {
     pub positive: u64,
     pub negative: u64,
 }
 
 // How much a check takes: bytes of the file, states in an explicit set, steps.
-#[derive(Drop)]
+#[derive(Clone, Copy)]
 pub struct Limits {
     pub size: u32,
     pub states: u16,
@@ -18,14 +18,14 @@ pub struct Limits {
 }
 
 // The checker's reply: accepted, or document 01's or 02's refusal number and place. A place may be the length of a caller's list.
-#[derive(Drop)]
+#[derive(Clone, Copy)]
 pub enum Reply {
     Accepted,
     Refused { number: u8, place: u64 },
 }
 
 // What a round of a check says: that the last step was reached and says "unsolvable", the step to go on from, or the refusal.
-#[derive(Drop)]
+#[derive(Clone, Copy)]
 pub enum Round {
     Ended,
     GoOn(u64),
@@ -33,7 +33,7 @@ pub enum Round {
 }
 
 // The answer to a question: in, out, or document 01's refusal number and place.
-#[derive(Drop)]
+#[derive(Clone, Copy)]
 pub enum Answer {
     In,
     Out,

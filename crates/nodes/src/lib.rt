@@ -10,7 +10,7 @@ use leaves::kind_of;
 use lookup::state_set;
 
 // An entry's kind and the two entries that it names; 0 where it names none.
-#[derive(Drop)]
+#[derive(Clone, Copy)]
 pub struct Node {
     pub kind: u8,
     pub first: u16,

@@ -10,14 +10,14 @@ ghost use Rattle.numbering.specs.Table.{Stands, list_reply};
 pub type RuleTable = [u8; 256];
 
 // What is found of a list: the place of its first fault, or none.
-#[derive(Drop)]
+#[derive(Clone, Copy)]
 pub enum ListReply {
     Lawful,
     Refused(u64),
 }
 
 // That, and the table of a lawful list.
-#[derive(Drop)]
+#[derive(Clone, Copy)]
 pub struct Numbering {
     pub reply: ListReply,
     pub rules: RuleTable,

@@ -5,7 +5,7 @@ ghost use Rattle.std.specs.Prelude.{◌≡◌, ◌*◌, ◌/◌, ◌%◌, ◌^�
 ghost use Rattle.numbers.specs.Numbers.{premises_of, judgement_kind_of};
 
 // A rule of document 01's list by its number: its premise count and its judgement kind.
-#[derive(Drop)]
+#[derive(Clone, Copy)]
 pub struct RuleNumber(pub u8, pub u8);
 
 // The premise counts of 0, which is no rule, and of the rules 1 to 28, two bits each, the lowest first; and their judgement kinds.

@@ -10,7 +10,7 @@ use nodes::node_at;
 use trees::{Leaves, all_basic, none, of_kind, one, tree};
 
 // A statement's leaves as written: left ones outside the bracket, those inside it, right ones, and the bracket's action set.
-#[derive(Drop)]
+#[derive(Clone, Copy)]
 pub struct Parts {
     pub ok: bool,
     pub outer: Leaves,

@@ -15,7 +15,7 @@ use task::{Action, Ends};
 use words::{next_hit, words_at, words_in};
 
 // Facts known to be on and facts known to be off.
-#[derive(Drop)]
+#[derive(Clone, Copy)]
 pub struct Assignment {
     pub on: u64,
     pub off: u64,
@@ -66,7 +66,7 @@ pub fn clause_count(set: BasicEntry) -> u32
 }
 
 // Where the clauses of a set stand in the file, where they do.
-#[derive(Drop)]
+#[derive(Clone, Copy)]
 pub enum Words {
     Absent,
     At(Span),
@@ -127,7 +127,7 @@ pub fn clause_at(file: &[u8], ends: Ends, set: BasicEntry, i: u32) -> Clause
 }
 
 // What an action does to clauses: what it adds, what it deletes for good, and what it changes.
-#[derive(Drop)]
+#[derive(Clone, Copy)]
 pub struct Effect {
     pub add: u64,
     pub gone: u64,
@@ -318,7 +318,7 @@ fn pass_span(
 
 // What stays the same while one action is looked at: the task's ends, how many left leaves there are, whether they are
 // two-literal or Horn, and the action.
-#[derive(Drop)]
+#[derive(Clone, Copy)]
 pub struct Setting {
     pub ends: Ends,
     pub m: usize,

@@ -8,21 +8,21 @@ ghost use Rattle.reader.specs.Heads.{entry_head_at, task_head_at};
 use file_numbers::{byte_at, u16_at, u64_at};
 
 // The file, and a place in it.
-#[derive(Drop)]
+#[derive(Clone, Copy)]
 pub struct Reader<'a> {
     pub src: &'a [u8],
     pub at: usize,
 }
 
 // How an entry starts: the length of its rest, and its kind.
-#[derive(Drop)]
+#[derive(Clone, Copy)]
 pub struct EntryHead {
     pub len: u16,
     pub kind: u8,
 }
 
 // The task's numbers behind the version, up to the count of actions.
-#[derive(Drop)]
+#[derive(Clone, Copy)]
 pub struct TaskHead {
     pub facts: u8,
     pub init: u64,

@@ -8,7 +8,7 @@ ghost use Rattle.task.specs.Inner.{at_init, few_unknown, at_goal};
 
 // An action: the facts it needs on, those it adds, those it deletes, and those it needs off.
 // Document 01 calls it an event, with needs, sets and clears, and document 02 adds needs-off.
-#[derive(Drop)]
+#[derive(Clone, Copy)]
 pub struct Action {
     pub pre: u64,
     pub add: u64,
@@ -19,7 +19,7 @@ pub struct Action {
 // The task's ends: over so many facts, an initial state, the facts that may be on or off there, and the goal's masks: facts that are on
 // in a goal state, and facts that are off. Document 01 calls them the start and the forbidden mask; the unknown mask between them and the
 // forbidden-off mask are document 02's.
-#[derive(Drop)]
+#[derive(Clone, Copy)]
 pub struct Ends {
     pub facts: u8,
     pub init: u64,

@@ -12,7 +12,7 @@ use lookup::state_set;
 use nodes::{basic, node_at, node_of};
 
 // At most nine entries.
-#[derive(Drop)]
+#[derive(Clone, Copy)]
 pub struct Leaves {
     pub items: [u16; 9],
     pub count: u8,
