@@ -1,0 +1,17 @@
+use Prim.Native.Nat.{◌+◌, ◌-◌, ◌*◌, ◌/◌, ◌≤◌}
+use native.Mathlib.Omega.{arith}
+use lib.ListN.{length}
+use Rattle.meaning.specs.Layout.{reference}
+use Rattle.bodies.proofs.FieldLaws.{reference_in, reference_high}
+use Rattle.bodies.proofs.BodyLaws.{AscendingLeft, numbers_start, numbers_end, number_bad, number_low, number_next}
+use borrow.Author.Rules.{rules}
+use Rattle.bodies.proofs.numbers.Given as goal
+
+-- `bodies::numbers` meets its contract.
+-- The loop's invariant: the numbers that are left say what all of them say.
+-- Assumes nothing.
+abbrev pub invariant-loop-i : goal.invariant-loop-i
+invariant-loop-i l = (l.i ≤ l.count) × AscendingLeft (reference l.part l.bound) 2 l.count l.low (2 * l.i) l.i
+
+abbrev pub decreases-loop-i : goal.decreases-loop-i
+decreases-loop-i l = l.count - l.i

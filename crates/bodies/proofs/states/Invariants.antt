@@ -1,0 +1,17 @@
+use Prim.Native.Nat.{◌+◌, ◌-◌, ◌*◌, ◌/◌, ◌≤◌}
+use native.Mathlib.Omega.{arith}
+use lib.ListN.{length}
+use Rattle.meaning.specs.Layout.{mask}
+use Rattle.bodies.proofs.FieldLaws.{mask_in, mask_high}
+use Rattle.bodies.proofs.BodyLaws.{ItemsLeft, items_start, items_done, item_bad, item_next}
+use borrow.Author.Rules.{rules}
+use Rattle.bodies.proofs.states.Given as goal
+
+-- `bodies::states` meets its contract.
+-- The loop's invariant: the states that are left say what all of them say.
+-- Assumes nothing.
+abbrev pub invariant-loop-i : goal.invariant-loop-i
+invariant-loop-i l = (l.i ≤ l.count) × ItemsLeft (mask l.part l.n) 8 l.count (8 * l.i) l.i
+
+abbrev pub decreases-loop-i : goal.decreases-loop-i
+decreases-loop-i l = l.count - l.i

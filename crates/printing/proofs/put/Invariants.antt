@@ -1,0 +1,19 @@
+-- one byte more
+use mathlib.Core.Path.{◌≡◌, refl, sym, ap, ◌∙◌}
+use mathlib.Core.List.{List, [], ◌∷◌, ◌++◌, append_assoc, append-nil}
+use Prim.Native.Nat.{ℕ, ◌+◌, ◌-◌, ◌≤◌, ◌<◌}
+use native.Mathlib.Omega.{arith}
+use native.Mathlib.Numerals.{add-one}
+use lib.ListN.{length, take, set, get_or, length-set}
+use lib.Seq.{take-suc-set, take-suc, take_all}
+use borrow.Author.Rules.{rules}
+use Rattle.printing.proofs.put.Given as goal
+
+-- `printing::put`: after i turns the line's front is what it was, and then the first i bytes of the text.
+-- Assumes nothing.
+abbrev pub invariant-loop-i : goal.invariant-loop-i
+invariant-loop-i l =
+    (l.end ≡ l.at + l.i) × (l.i ≤ length l.text) × (length l.line ≡ length l.initial.line) × (take l.end l.line ≡ take l.at l.initial.line ++ take l.i l.text)
+
+abbrev pub decreases-loop-i : goal.decreases-loop-i
+decreases-loop-i l = length l.text - l.i
