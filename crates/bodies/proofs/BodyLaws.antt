@@ -103,13 +103,13 @@ module _ (part : List ℕ) (n : ℕ) (two : Bool) (start : ℕ) where
           second : mask part n (16 * i + 8) ≡ found b
           second = mask_in part (16 * i + 8) top n t e' w' (omega arith) g'
 
-          pub clause_rule_lem : not r ≡ true → At 7 (start + 16 * i) ≡ fault_from start (items R 16 0 count)
-          clause_rule_lem s = stop (clause_bad part (16 * i) n (clause_rule two) first second (sym q ∙ not-true r s))
+          pub clause_rule_lem : r ≡ false → At 7 (start + 16 * i) ≡ fault_from start (items R 16 0 count)
+          clause_rule_lem s = stop (clause_bad part (16 * i) n (clause_rule two) first second (sym q ∙ s))
 
-          pub clause_next : not r ≡ false → ClausesLeft part n two count (i + 1)
+          pub clause_next : r ≡ true → ClausesLeft part n two count (i + 1)
           clause_next s =
               item_next R 16 count start i (16 * i) left h (16 * (i + 1)) (omega arith)
-              (clause_in part (16 * i) n (clause_rule two) first second (sym q ∙ not-false r s))
+              (clause_in part (16 * i) n (clause_rule two) first second (sym q ∙ s))
 
 -- ---- a form that is known
 

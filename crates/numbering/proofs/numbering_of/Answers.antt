@@ -8,7 +8,7 @@ use Rattle.numbering.proofs.numbering_of.Goals as goal
 
 pub returns-then-count-ne28-clause-reply_value : goal.returns-then-count-ne28-clause-reply_value
 returns-then-count-ne28-clause-reply_value c =
-    let z = told_refused _ _ (other_length _ c.if-count-ne28.true) in
+    let z = told_refused _ {X = Unit {0}} _ (other_length _ c.if-count-ne28.true) in
     z.0
 
 pub returns-then-count-ne28-clause-stands : goal.returns-then-count-ne28-clause-stands
@@ -23,7 +23,7 @@ pub returns-then-x-before-clause-reply_value : goal.returns-then-x-before-clause
 returns-then-x-before-clause-reply_value c =
     let g = c in
     let b = c.shared_slice_known-in-loop-k-1.given g.loop-k.k in
-    let told = told_fault _ g.loop-k.k _ g.if-count-ne28.false (search rules) g.loop-k.invariant.2 (omega (arith, b)) c.if-x-before.true in
+    let told = told_fault _ {X = Unit {0}} g.loop-k.k _ g.if-count-ne28.false (search rules) g.loop-k.invariant.2 (omega (arith, b)) c.if-x-before.true in
     told.0
 
 pub returns-then-x-before-clause-stands : goal.returns-then-x-before-clause-stands

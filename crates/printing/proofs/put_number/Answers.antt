@@ -19,5 +19,5 @@ returns-clause-by_index c =
     let fits = c.ranges.n.fits in
     (
           last_digits 10 d.result args.n,
-          ((d.result, (d.ensures.1.0, refl)), c.put.ensures.line_after ∙ ap (λ (t : List ℕ). take args.at args.line-1.now ++ t) d.ensures.1.1),
+          ((d.result, (d.ensures.len, refl)), c.put.ensures.line_after ∙ ap (λ (t : List ℕ). take args.at args.line.now ++ t) d.ensures.digits),
         )

@@ -12,12 +12,12 @@ pub returns-in-Accepted-clause-reply_line : goal.returns-in-Accepted-clause-repl
 unfolding ReplyLine accepted
 returns-in-Accepted-clause-reply_line c =
     let put = c in
-    subst (λ (r : Reply). ReplyLine r (take put.put.result put.put.new.0))
+    subst (λ (r : Reply). ReplyLine r (take put.put.result put.put.new.line))
           (sym put.in-Accepted.is) put.put.ensures.line_after
 
 pub returns-in-Refused-clause-reply_line : goal.returns-in-Refused-clause-reply_line
 unfolding ReplyLine
 returns-in-Refused-clause-reply_line c =
     let put = c in
-    subst (λ (r : Reply). ReplyLine r (take put.refused_line.result put.refused_line.new.1.1.0))
+    subst (λ (r : Reply). ReplyLine r (take put.refused_line.result put.refused_line.new.line))
           (sym put.in-Refused.is) put.refused_line.ensures.refused_line

@@ -1,3 +1,0 @@
-pub mod ReaderWalks
-pub mod ReadNumber
-pub mod ReaderSteps
