@@ -5,15 +5,16 @@ use borrow.Author.Rules.{rules}
 use Rattle.certificate.specs.declared.ActionEntry.TheVariants.{Listed}
 use Rattle.certificate.specs.Views.{actions_of, action_table}
 use Rattle.certificate.proofs.TableLaws.{actions_left}
-use Rattle.certificate.proofs.views.actions_of.Statement.{statement}
-use Rattle.certificate.proofs.views.actions_of.Tie as tie
+use Rattle.std.proofs.Common.{refl}
+use Rattle.certificate.proofs.views.actions_of.Goals as goal
 
-pub actions-of-spec : {M : Type 1} → statement M
+pub returns-in-1 : goal.returns-in-1
 unfolding actions_of action_table
-actions-of-spec =
-    tie.close
-    (tie.spec
-    (λ c κs. search rules)
-    (λ c. rw c.before.match.keys1 (ap Listed c.Span-of.ensures))
-    (λ c. rw c.match.keys2)
-    (λ c. actions_left _ c.match.rest))
+returns-in-1 c = rw c.in-1.is (ap Listed c.span_of.ensures)
+
+pub returns-in-2 : goal.returns-in-2
+unfolding actions_of action_table
+returns-in-2 c = rw c.in-2.is refl
+
+pub returns-in_default : goal.returns-in_default
+returns-in_default c = actions_left _ (search rules)

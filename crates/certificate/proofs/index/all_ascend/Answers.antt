@@ -1,0 +1,37 @@
+use mathlib.Core.Path.{subst, sym}
+use Prim.Native.Nat.{◌+◌, ◌-◌, ◌*◌, ◌≤◌}
+use native.Mathlib.Omega.{arith}
+use lib.ListN.{length}
+use lib.Dec.{T}
+use borrow.Author.Rules.{rules}
+use borrow.Author.Tests.{not-true, not-false}
+use Rattle.task.proofs.Tests.{holds}
+use Rattle.certificate.specs.declared.Span.{Span}
+use Rattle.certificate.specs.Rows.{AllAscend}
+use Rattle.certificate.proofs.OrderLaws.{set_there, set_inside, up_more, up_fails}
+use Rattle.std.proofs.lemmas.Bool.{not_from_false, not_from_true}
+use Rattle.certificate.proofs.index.all_ascend.Goals as goal
+
+pub ascends-requires : goal.ascends-requires
+ascends-requires c =
+    let s = c in
+    let l = set_inside s.requires c.loop-e.e c.loop-e-test.true in
+    subst (λ (x : Span). x.at + 8 * x.count ≤ length s.args.file.now) (sym c.states_at-x.ensures) l
+
+pub returns-then-not-ascends : goal.returns-then-not-ascends
+returns-then-not-ascends c =
+    let d = c in
+    let s = d in
+    let b = c.ascends.result in
+    up_fails s.args.file.now s.args.index.now d.loop-e-test.true d.states_at-x.ensures
+    (λ up. subst T {x = b} (not-true b (not_from_false _ c.if-not-ascends.true)) (c.ascends.ensures.1 up))
+
+pub loop-e-preserved : goal.loop-e-preserved
+loop-e-preserved c =
+    let d = c in
+    let s = d in
+    let b = c.ascends.result in (
+      up_more s.args.file.now s.args.index.now d.loop-e.invariant.0 d.states_at-x.ensures
+          (c.ascends.ensures.0 (holds {b = b} (not-false b (not_from_true _ c.if-not-ascends.false)))),
+      search rules,
+    )

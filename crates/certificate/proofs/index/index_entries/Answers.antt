@@ -1,0 +1,22 @@
+use mathlib.Core.Path.{◌≡◌, refl, ap, ◌∙◌}
+use Prim.Native.Nat.{◌+◌, ◌-◌, ◌*◌, ◌≤◌}
+use native.Mathlib.Omega.{arith}
+use borrow.Author.Rules.{rules}
+use Rattle.certificate.specs.Views.{entry_place}
+use Rattle.certificate.specs.Index.{capped, Indexed}
+use Rattle.certificate.proofs.IndexLaws.{place_more, indexed_none, indexed_more, indexed_full, indexed_all}
+use Rattle.certificate.proofs.index.index_entries.Goals as goal
+
+pub loop-k-init : goal.loop-k-init
+unfolding entry_place
+loop-k-init c = (omega arith, refl, omega arith, indexed_none _ _ _ _)
+
+pub loop-k-preserved : goal.loop-k-preserved
+loop-k-preserved c =
+    let g = c.loop-k in
+    let e = g.invariant.1 in (
+      omega arith,
+      place_more _ _ g.k g.at _ e c.u16_at.ensures,
+      omega arith,
+      indexed_more _ _ _ _ g.k g.index g.invariant.3 _ (omega arith) (c.capped_at.ensures ∙ ap capped e),
+    )
