@@ -1,0 +1,14 @@
+use borrow.Author.Rules.{rules}
+use Rattle.words.proofs.HitLaws.{missed_more}
+use Rattle.words.specs.Words.{MissedAt}
+use native.Mathlib.Omega.{arith}
+use Prim.Native.Nat.{◌≤◌, ◌-◌}
+use Rattle.words.proofs.past_fours.Given as goal
+
+-- `words::past_fours` meets its contract.
+-- Assumes nothing.
+abbrev pub invariant-loop-j : goal.invariant-loop-j
+invariant-loop-j l = (l.i ≤ l.j) × (l.j ≤ l.count) × MissedAt l.file l.at l.two l.off l.on l.i l.j
+
+abbrev pub decreases-loop-j : goal.decreases-loop-j
+decreases-loop-j l = l.count - l.j
