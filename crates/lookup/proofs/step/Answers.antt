@@ -1,0 +1,22 @@
+-- `lookup::step`: the steps stand one after the other from their place.
+-- Assumes nothing.
+use mathlib.Core.Path.{ap, ◌∙◌}
+use native.Mathlib.Omega.{arith}
+use borrow.Author.Rules.{rules}
+use Rattle.certificate.specs.Views.{step_of}
+use Rattle.certificate.proofs.KnownLaws.{placed_step, placed_fit}
+use Rattle.lookup.proofs.step.Goals as goal
+
+pub overflow_add-p : goal.overflow_add-p
+overflow_add-p c = let h = placed_fit _ _ c.requires.placed in omega arith
+
+pub step_in-requires : goal.step_in-requires
+step_in-requires c =
+    let s = c in
+    let h = placed_fit _ _ s.requires.placed in
+    omega (arith, h.after_steps, s.requires.k_lt_steps)
+
+pub returns : goal.returns
+returns c =
+    let s = c in
+    c.step_in.ensures ∙ ap step_of (placed_step _ _ s.requires.placed s.args.k s.requires.k_lt_steps)
