@@ -1,0 +1,18 @@
+-- `kinds::summary` meets its contract.
+-- Assumes nothing.
+use mathlib.Core.Path.{refl}
+use borrow.Author.Rules.{rules}
+use Rattle.kinds.proofs.SummaryLaws.{flags_listed, flags_two}
+use Rattle.kinds.proofs.summary.Goals as goal
+
+pub returns : goal.returns
+returns c =
+    record {
+      left_count_lem = refl;
+      right_count_lem = refl;
+      action_set = refl;
+      listed = flags_listed _ _ _ _ _ c.flags_in-x.ensures;
+      two = flags_two _ _ _ _ _ c.flags_in-x.ensures;
+      anchor = c.find_anchor-anchor.ensures;
+      permits = cc;
+    }
