@@ -40,6 +40,8 @@ module _ (bytes : List ℕ) (n : ℕ) where
     -- no kind has the number where no form has it
     pub no_kind : (ks : List (Kind A)) (fs : List Form) → Alike ks fs → (j : ℕ) → form_known (form_at fs j) ≡ false → get_elem? ks j ≡ none
     no_kind [] [] end j e = refl
+    no_kind [] (f ∷ fs) x4 j e = elim x4 [ ]
+    no_kind (k ∷ ks) [] x4 j e = elim x4 [ ]
     no_kind (k ∷ ks) (f ∷ fs) (s & a) zero e =
         let z : true ≡ false = sym s.form ∙ e in let y : ◌≡◌ {A = ℕ} 0 1 = cc in absurd (omega arith)
     no_kind (k ∷ ks) (f ∷ fs) (s & a) (suc j) e = no_kind ks fs a j e
@@ -47,6 +49,8 @@ module _ (bytes : List ℕ) (n : ℕ) where
     -- the kind with the number of a form
     pub kind_of_lem : (ks : List (Kind A)) (fs : List Form) → Alike ks fs → (j : ℕ) → form_known (form_at fs j) ≡ true
         → (k : Kind A) × (get_elem? ks j ≡ some k) × Same k (form_at fs j)
+    kind_of_lem [] (f ∷ fs) x4 j e = elim x4 [ ]
+    kind_of_lem (k ∷ ks) [] x4 j e = elim x4 [ ]
     kind_of_lem [] [] end j e = let y : ◌≡◌ {A = ℕ} 0 1 = cc in absurd (omega arith)
     kind_of_lem (k ∷ ks) (f ∷ fs) (s & a) zero e = (k, refl, s)
     kind_of_lem (k ∷ ks) (f ∷ fs) (s & a) (suc j) e = kind_of_lem ks fs a j e

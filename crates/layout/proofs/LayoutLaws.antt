@@ -38,12 +38,16 @@ module _ (l : Limits) (bytes : List ℕ) (t : Task) (same : number 1 bytes 4 ≡
   both_refused : (r : Result File) (s : Result (ℕ × ℕ)) {n p : ℕ} → Agree (Placed l bytes t same) r s → Ended n p ≡ rest s
       → Refused n p ≡ outline_to bytes r
   unfolding outline_to
+  both_refused (refuse m q) (found x) x5 e = elim x5 [ ]
+  both_refused (found f) (refuse _ _) x6 e = elim x6 [ ]
   both_refused (refuse m q) (refuse _ _) refusals e = cc
   both_refused (found f) (found x) (values h) e = let z : ◌≡◌ {A = ℕ} 0 1 = cc in absurd (omega arith)
 
   both_found : (r : Result File) (s : Result (ℕ × ℕ)) {a b : ℕ} → Agree (Placed l bytes t same) r s → Both a b ≡ rest s
       → Lawful (placed l bytes t same a b) ≡ outline_to bytes r
   unfolding outline_to
+  both_found (refuse m q) (found x) x5 e = elim x5 [ ]
+  both_found (found f) (refuse _ _) x6 e = elim x6 [ ]
   both_found (refuse m q) (refuse _ _) refusals e = let z : ◌≡◌ {A = ℕ} 0 1 = cc in absurd (omega arith)
   both_found (found f) (found x) {a} {b} (values h) e =
       let i : a ≡ x.0 = cc in

@@ -1,6 +1,6 @@
 -- A walk over items one after the other: what holds of it at each turn, and where it stops.
 -- Assumes nothing.
-use mathlib.Core.Path.{◌≡◌, refl, sym, ap, ◌∙◌}
+use mathlib.Core.Path.{◌≡◌, refl, sym, ap, ◌∙◌, subst}
 use Prim.Native.Nat.{ℕ, zero, suc, ◌+◌, ◌-◌, ◌*◌, ◌/◌, ◌≤◌, ◌<◌}
 use native.Mathlib.Decide.{dec_lt}
 use native.Mathlib.Omega.{arith}
@@ -118,6 +118,13 @@ module _ (bytes : List ℕ) (row : Row) (count place : ℕ) where
 
     pub going_on : Going seen (p + seen.size) × (seen.left < x.left)
     going_on = next_by (item_fault bytes row i p) refl
+
+    -- the same of an item that is seen in the same bytes
+    pub going_by : {b : List ℕ} → b ≡ bytes → {y : Item} → y ≡ seen_at b row i (x.left - 1) p
+        → Going y (p + y.size) × (y.left < x.left)
+    going_by eb e =
+        subst (λ (y : Item). Going y (p + y.size) × (y.left < x.left))
+        (sym (e ∙ ap (λ (b : List ℕ). seen_at b row i (x.left - 1) p) eb)) going_on
 
 -- ---- what the walk says
 

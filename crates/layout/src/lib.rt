@@ -88,7 +88,7 @@ fn counted(file: &[u8], s: Section, high: u16, place: u32) -> Walked
 }
 
 // The count of the steps, of which at most `most` are allowed.
-fn step_count_lem(file: &[u8], most: u16, place: u32) -> Fault
+fn step_count(file: &[u8], most: u16, place: u32) -> Fault
     ensures { result ≡ fault (step_count_at file.now most place) }
 {
     let v = count(file, 1, 2048, place);
@@ -109,7 +109,7 @@ fn steps(file: &[u8], most: u16, place: u32) -> Fault
     requires { length file.now ≤ 65536 }
     ensures { result ≡ fault (steps_at file.now most place) }
 {
-    let v = step_count_lem(file, most, place);
+    let v = step_count(file, most, place);
     if let Fault::At { number, place } = v {
         return Fault::At { number, place };
     }
