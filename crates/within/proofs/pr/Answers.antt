@@ -1,0 +1,20 @@
+-- `within::pr` meets its contract: PR's tests in turn, and nothing matches an entry of another kind.
+-- Assumes nothing.
+use mathlib.Core.Path.{◌∙◌, ap}
+use borrow.Author.Rules.{rules}
+use Rattle.patterns.specs.Matched.{matched}
+use Rattle.rules.proofs.RuleLaws.{chain, opened}
+use Rattle.within.proofs.WithinRules.{pr}
+use Rattle.patterns.proofs.Views.{other, taken, refused, both_matched}
+use borrow.Enum.Refused.{opened as among}
+use Rattle.within.proofs.pr.Goals as goal
+
+pub returns-in_default : goal.returns-in_default
+unfolding opened
+returns-in_default c = refused _ (simp (other _ _ c.state_set.ensures 9 (among c.in_default.in_default-own.keys2), chain))
+
+pub returns : goal.returns
+returns c =
+    let s = c in
+    both_matched _ _ c.both.ensures c.is_regression_of_complement.ensures c.is_complement.ensures
+    ∙ ap matched (pr _ _ _ _ _ _ _ (taken _ _ s.state_set.ensures s.in-Progression.is))
