@@ -1,4 +1,4 @@
-/* The proved checker from C or C++. Link with target/staticlib/liblink.a, which `rt staticlib link` writes (x86-64). */
+/* The proved checker from C or C++. Link with crates/link/out/liblink.a, which `rt lib` writes in crates/link (x86-64). */
 #ifndef CERTIFICATE_H
 #define CERTIFICATE_H
 

@@ -28,7 +28,7 @@ use Rattle.meaning.proofs.Rounds.{goes_further}
 use Rattle.meaning.proofs.Points.{an_accepted_file_is_safe, a_refused_file_has_its_number, a_refused_question_has_its_number}
 use Rattle.meaning.proofs.Points.{a_file_accepted_with_a_list_is_safe, a_refusal_with_a_list_has_its_number}
 use Rattle.meaning.proofs.Points.{a_refused_round_has_its_number, a_file_that_the_small_check_accepts_is_safe}
-use Rattle.meaning.proofs.Points.{a_refusal_with_limits_has_its_number, every_judgement_is_true, judgements_are_true_with_a_list}
+use Rattle.meaning.proofs.Points.{a_refusal_with_limits_has_its_number, judgements_are_true_by_the_reply, judgements_are_true_with_a_list}
 use Rattle.meaning.proofs.Points.{judgements_are_true_under_limits}
 use Rattle.link.specs.Code.{refusal_code, code_of, round_code_of, answer_code_of, JudgedByCode}
 
@@ -98,7 +98,7 @@ judged_code bytes (Refused r p) {c} j h e =
 
 pub judged_by_code : (bytes : List ℕ) {c : ℕ} → c ≡ code_of (reply_of bytes) → JudgedByCode bytes c
 judged_by_code bytes =
-    judged_code bytes (reply_of bytes) (every_judgement_is_true bytes) (λ r p q. some_number (a_refused_file_has_its_number bytes r p q))
+    judged_code bytes (reply_of bytes) (judgements_are_true_by_the_reply bytes) (λ r p q. some_number (a_refused_file_has_its_number bytes r p q))
 
 pub judged_by_list : (bytes numbers : List ℕ) {c : ℕ} → c ≡ code_of (reply_numbered bytes numbers) → JudgedByCode bytes c
 judged_by_list bytes numbers =

@@ -21,7 +21,7 @@ use Rattle.meaning.specs.declared.Reply.TheVariants.{Accepted, Refused}
 use Rattle.meaning.specs.Reply.{check_steps, check_last, check_from, check_file, reply_to, reply_of}
 use Rattle.meaning.specs.Judged.{Judged, TrueBefore, TrueUpTo, JudgedBy}
 use Rattle.meaning.specs.Rounds.{check_some}
-use Rattle.meaning.specs.Points.{Pass, JudgementsTrue, AcceptedIsSafe, RefusedIsUntrue}
+use Rattle.meaning.specs.Points.{Pass, JudgementsTrue, ReplyJudges, AcceptedIsSafe, RefusedIsUntrue}
 use Rattle.meaning.proofs.Results.{no_found, bind_out, need_out, bind_fails, need_fails, bind_found, bind_refused}
 use Rattle.meaning.proofs.Numbered.{number_of, need_ok, forget}
 use Rattle.meaning.proofs.Reading.{file_read}
@@ -176,8 +176,14 @@ told : (f : File) → Told f (Passed f) (check_file f)
 told f = told_as f f refl (λ k. refl) (λ n _. own_passed f n) (check_file f) (check_told f)
 
 pub judgements_true : JudgementsTrue
+judgements_true bytes f r e =
+    true_before bytes f r (length f.steps)
+    (own_passed f (length f.steps)
+    (λ k low high. each_passes f (length f.steps) 0 (omega arith) (sym (all f) ∙ e) k low (omega arith)))
+
+pub reply_judges : ReplyJudges
 unfolding reply_of
-judgements_true bytes = reply_judged bytes check_file told
+reply_judges bytes = reply_judged bytes check_file told
 
 pub accepted_is_safe : AcceptedIsSafe
 unfolding reply_of

@@ -23,7 +23,7 @@ use Rattle.meaning.proofs.Stages.{From, empty, first, Stage, fault, fine, breach
 use Rattle.meaning.proofs.Breaches.{file_stage, read_alike}
 use Rattle.meaning.proofs.StepRefusals.{OfSteps, check_ok}
 use Rattle.meaning.proofs.Refusals.{reply_number, refusal_numbers}
-use Rattle.meaning.proofs.Judgements.{no_judgement, judgements_true}
+use Rattle.meaning.proofs.Judgements.{no_judgement, reply_judges}
 
 pub full_limits : FullLimits
 unfolding reply_within reply_of read_file
@@ -52,7 +52,7 @@ small_is_accepted = accepted_full small
 pub limited_judged : LimitedJudged
 limited_judged l bytes =
     elim (replies_alike l bytes) [
-      | inl a ↦ subst (JudgedBy bytes) (sym a) (judgements_true bytes)
+      | inl a ↦ subst (JudgedBy bytes) (sym a) (reply_judges bytes)
       | inr b ↦ subst (JudgedBy bytes) (sym b.1) (no_judgement bytes 19 b.0 (λ low high. omega arith))
     ]
 

@@ -13,7 +13,7 @@ use Rattle.meaning.proofs.Reading.{reads_within}
 use Rattle.meaning.proofs.Written.{reads_back}
 use Rattle.meaning.proofs.RulesSound.{rules_sound}
 use Rattle.meaning.specs.Certain.{certificate_of}
-use Rattle.meaning.specs.Points.{SampleLength, TwelveCases, RulesSound, JudgementsTrue, AcceptedIsSafe, SafeIsAccepted}
+use Rattle.meaning.specs.Points.{SampleLength, TwelveCases, RulesSound, JudgementsTrue, ReplyJudges, AcceptedIsSafe, SafeIsAccepted}
 use Rattle.meaning.specs.Points.{CertainCertificate, SampleForm, ReadsWithin, ReadsBack, WritesBack, Shortcut, RefusalNumbers}
 use Rattle.meaning.specs.Points.{AnswerNumbers, ListFaults, PlainNumbers, Renumbered, RewritingIsBijective, RewrittenIsRead}
 use Rattle.meaning.specs.Points.{RewrittenAlike, NumberedIsSafe, NumberedRefusals, OneRound, RunIsCheck, RunEnds, FewestRounds}
@@ -25,7 +25,7 @@ use Rattle.meaning.specs.Points.{NumberedJudged, LimitedJudged, RunJudged, Stric
 use Rattle.meaning.specs.Points.{StricterOrder, StricterCases, RefusedIsUntrue}
 use Rattle.meaning.specs.Points.{AnswerOrderAlike, FirstWrongState, NoOrderFault, OrderCases}
 use Rattle.meaning.proofs.Computed.{computed}
-use Rattle.meaning.proofs.Judgements.{judgements_true, accepted_is_safe, refused_is_untrue}
+use Rattle.meaning.proofs.Judgements.{judgements_true, reply_judges, accepted_is_safe, refused_is_untrue}
 use Rattle.meaning.proofs.Certain.{certain_certificate, safe_is_accepted, certain_length, small_safe_is_accepted}
 use Rattle.meaning.proofs.Certain.{small_certain_certificate}
 use Rattle.meaning.proofs.Shallow.{shortcut}
@@ -58,6 +58,9 @@ every_rule_is_sound = rules_sound
 
 pub every_judgement_is_true : JudgementsTrue
 every_judgement_is_true = judgements_true
+
+pub judgements_are_true_by_the_reply : ReplyJudges
+judgements_are_true_by_the_reply = reply_judges
 
 pub an_accepted_file_is_safe : AcceptedIsSafe
 an_accepted_file_is_safe = accepted_is_safe

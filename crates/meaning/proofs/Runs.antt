@@ -26,7 +26,7 @@ use Rattle.meaning.specs.Rounds.{answers_of}
 use Rattle.meaning.specs.Judged.{JudgedBy}
 use Rattle.meaning.specs.Points.{RunIsCheck, RunEnds, FewestRounds, RunIsSafe, QuestionsBetween, Pass, RunJudged}
 use Rattle.meaning.proofs.Results.{found_same, and_out}
-use Rattle.meaning.proofs.Judgements.{true_before, no_judgement, own_passed, judgements_true, accepted_is_safe}
+use Rattle.meaning.proofs.Judgements.{true_before, no_judgement, own_passed, reply_judges, accepted_is_safe}
 use Rattle.meaning.proofs.Rounds.{some_steps, ended_out, Left, left_parts, rest_passed, goes_on, at_last, rest_of, rest_reply}
 use Rattle.meaning.proofs.Rounds.{Inside, inside_start, round_leaves, round_handed}
 
@@ -154,7 +154,7 @@ unfolding run at_end
 run_judged bytes counts = (
   (λ r e. elim (begun bytes counts) [
     | inl (inl s) ↦ not_on r s.0 (sym e ∙ s.1)
-    | inl (inr s) ↦ subst (JudgedBy bytes) (same_reply (reply_of bytes) r (sym s ∙ e)) (judgements_true bytes)
+    | inl (inr s) ↦ subst (JudgedBy bytes) (same_reply (reply_of bytes) r (sym s ∙ e)) (reply_judges bytes)
     | inr s ↦ subst (JudgedBy bytes) (same_reply (reply.Refused 17 0) r (sym s.0 ∙ e))
         (no_judgement bytes 17 0 (λ low high. omega arith))
   ]),

@@ -53,10 +53,16 @@ TwelveCases = map (λ (c : Case). reply_of c.bytes) cases ≡ map (λ (c : Case)
 abbrev pub RulesSound : Type 1
 RulesSound = (y : System) (ρ : ℕ → States y) (α : ℕ → Actions y) → SoundRules y ρ α rules
 
+-- Every judgement of a file whose steps pass is true.
+abbrev pub JudgementsTrue : Type 0
+JudgementsTrue =
+    (bytes : List ℕ) (f : File) → read_file bytes ≡ found f → check_steps f 0 f.steps ≡ found tt
+    → (k : ℕ) → k < length f.steps → Judged f (step_at f k).kind (step_at f k).left (step_at f k).right
+
 -- By the reply to a file: every judgement of an accepted file is true, and of one that is refused with 12 alone; where a step fails, with
 -- 8 to 11, each before it is. A set called dead meets no sequence from an initial state to a forbidden one.
-abbrev pub JudgementsTrue : Type 0
-JudgementsTrue = (bytes : List ℕ) → JudgedBy bytes (reply_of bytes)
+abbrev pub ReplyJudges : Type 0
+ReplyJudges = (bytes : List ℕ) → JudgedBy bytes (reply_of bytes)
 
 -- Point 3, first half: of an accepted file, no list of the task's actions, played from an initial state, passes a forbidden state.
 abbrev pub AcceptedIsSafe : Type 0
@@ -521,7 +527,7 @@ RefusedIsUntrue =
     (bytes : List ℕ) (p : ℕ) → reply_of bytes ≡ Refused 11 p
     → (f : File) × (read_file bytes ≡ found f) × (Judged f (step_at f p).kind (step_at f p).left (step_at f p).right → ⊥)
 
--- JudgementsTrue holds as well of the reply with a caller's own rule numbers, and of the reply with smaller limits, whatever they are.
+-- ReplyJudges holds as well of the reply with a caller's own rule numbers, and of the reply with smaller limits, whatever they are.
 abbrev pub NumberedJudged : Type 0
 NumberedJudged = (bytes numbers : List ℕ) → JudgedBy bytes (reply_numbered bytes numbers)
 
