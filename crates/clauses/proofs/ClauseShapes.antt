@@ -14,7 +14,6 @@ use Rattle.task.proofs.Tests.{excluded}
 use Rattle.task.proofs.Bits.{bit_none, bit_without}
 use Rattle.meaning.specs.declared.Clause.{Clause}
 use Rattle.meaning.specs.Layout.{horn_rule, two_cnf_rule}
-use Rattle.task.specs.Inner.{bit}
 use Rattle.task.specs.declared.Ends.{Ends}
 use Rattle.file_numbers.specs.ClauseRule.{clause_rule}
 use Rattle.certificate.specs.declared.BasicEntry.{BasicEntry}

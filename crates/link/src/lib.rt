@@ -53,7 +53,7 @@ pub extern "C" fn certificate_check(file: &[u8]) -> u64
     ensures code { result ≡ code_of (reply_of file.now) }
     ensures safe { result ≡ 0 → (f : File) × (read_file file.now ≡ found f) × Safe f.task }
     ensures judged { JudgedByCode file.now result }
-    ensures untouched { file.now ≡ file.now }
+    ensures untouched { file.exit.now ≡ file.entry.now }
 {
     reply_code(check(file))
 }
@@ -64,8 +64,8 @@ pub extern "C" fn certificate_check_numbered(file: &[u8], numbers: &[u8]) -> u64
     ensures code { result ≡ code_of (reply_numbered file.now numbers.now) }
     ensures safe { result ≡ 0 → (f : File) × (read_file file.now ≡ found f) × Safe f.task }
     ensures judged { JudgedByCode file.now result }
-    ensures untouched { file.now ≡ file.now }
-    ensures list_untouched { numbers.now ≡ numbers.now }
+    ensures untouched { file.exit.now ≡ file.entry.now }
+    ensures list_untouched { numbers.exit.now ≡ numbers.entry.now }
 {
     reply_code(check_numbered(file, numbers))
 }
@@ -76,7 +76,7 @@ pub extern "C" fn certificate_check_small(file: &[u8]) -> u64
     ensures code { result ≡ code_of (reply_small file.now) }
     ensures safe { result ≡ 0 → (f : File) × (read_file file.now ≡ found f) × Safe f.task }
     ensures judged { JudgedByCode file.now result }
-    ensures untouched { file.now ≡ file.now }
+    ensures untouched { file.exit.now ≡ file.entry.now }
 {
     reply_code(check_small(file))
 }
@@ -87,7 +87,7 @@ pub extern "C" fn certificate_check_small(file: &[u8]) -> u64
 pub extern "C" fn certificate_round(file: &[u8], from: u64, count: u64) -> u64
     ensures code { result ≡ round_code_of (round_of file.now from count) }
     ensures told { (result ≡ 0 → round_of file.now from count ≡ Ended) × (0 < result → result < 4294967296 → (round_of file.now from count ≡ GoOn result) × (result < 2048)) }
-    ensures untouched { file.now ≡ file.now }
+    ensures untouched { file.exit.now ≡ file.entry.now }
 {
     match check_round(file, from, count) {
         Round::Ended => 0,
@@ -101,7 +101,7 @@ pub extern "C" fn certificate_round(file: &[u8], from: u64, count: u64) -> u64
 pub extern "C" fn certificate_ask(file: &[u8], entry: u64, state: u64) -> u64
     ensures code { result ≡ answer_code_of (answer_of file.now entry state) }
     ensures told { (result ≡ 1 → answer_of file.now entry state ≡ In) × (result ≡ 0 → answer_of file.now entry state ≡ Out) }
-    ensures untouched { file.now ≡ file.now }
+    ensures untouched { file.exit.now ≡ file.entry.now }
 {
     match ask(file, entry, state) {
         Answer::Out => 0,

@@ -69,7 +69,7 @@ fn answer(file: &[u8], at: Places, index: &Index, entry: u64, state: u64) -> Ans
 // Whether a state is in the set of an entry of a file.
 pub fn ask(file: &[u8], entry: u64, state: u64) -> Answer
     ensures answer { result ≡ answer_of file.now entry state }
-    ensures untouched { file.now ≡ file.now }
+    ensures untouched { file.exit.now ≡ file.entry.now }
 {
     match read_layout(file, full_limits()) {
         Outline::Refused { number, place } => Answer::Refused { number, place },

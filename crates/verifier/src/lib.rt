@@ -44,7 +44,7 @@ fn check_by(file: &[u8], limits: Limits, rules: &RuleTable) -> Reply
 // Whether a file's certificate shows that its task is safe.
 pub fn check(file: &[u8]) -> Reply
     ensures reply { result ≡ reply_of file.now }
-    ensures untouched { file.now ≡ file.now }
+    ensures untouched { file.exit.now ≡ file.entry.now }
     ensures safe { result ≡ Accepted → (f : File) × (read_file file.now ≡ found f) × Safe f.task }
     ensures judged { JudgedBy file.now result }
 {
@@ -55,7 +55,7 @@ pub fn check(file: &[u8]) -> Reply
 // The same with smaller limits: 19 where the file breaks one of them, and else the reply of `check`.
 pub fn check_small(file: &[u8]) -> Reply
     ensures reply { result ≡ reply_small file.now }
-    ensures untouched { file.now ≡ file.now }
+    ensures untouched { file.exit.now ≡ file.entry.now }
     ensures safe { result ≡ Accepted → (f : File) × (read_file file.now ≡ found f) × Safe f.task }
     ensures judged { JudgedBy file.now result }
 {
@@ -67,8 +67,8 @@ pub fn check_small(file: &[u8]) -> Reply
 // come first.
 pub fn check_numbered(file: &[u8], numbers: &[u8]) -> Reply
     ensures reply { result ≡ reply_numbered file.now numbers.now }
-    ensures untouched { file.now ≡ file.now }
-    ensures list_untouched { numbers.now ≡ numbers.now }
+    ensures untouched { file.exit.now ≡ file.entry.now }
+    ensures list_untouched { numbers.exit.now ≡ numbers.entry.now }
     ensures safe { result ≡ Accepted → (f : File) × (read_file file.now ≡ found f) × Safe f.task }
     ensures judged { JudgedBy file.now result }
 {
@@ -127,7 +127,7 @@ fn round_of(file: &[u8], at: Places, index: &Index, from: u64, count: u64) -> Ro
 // the reply of `check`; a round by itself speaks of its own steps alone.
 pub fn check_round(file: &[u8], from: u64, count: u64) -> Round
     ensures round { result ≡ round_of file.now from count }
-    ensures untouched { file.now ≡ file.now }
+    ensures untouched { file.exit.now ≡ file.entry.now }
 {
     match read_layout(file, full_limits()) {
         Outline::Refused { number, place } => {

@@ -139,7 +139,7 @@ fn stand_in(name: &str, code: &str) -> String {
 /// takes no lists of rule numbers, and of ones that say 2 and 7.
 #[test]
 fn an_earlier_build_is_loaded_beside_this_one() {
-    let library = concat!(env!("CARGO_MANIFEST_DIR"), "/../../target/staticlib/liblink.a");
+    let library = concat!(env!("CARGO_MANIFEST_DIR"), "/../../crates/link/out/liblink.a");
     let today = object("today", &["-Wl,--whole-archive", library, "-Wl,--no-whole-archive"]);
     let [early, first, refusing] = [("early", "0"), ("first", "2l << 32 | 4"), ("refusing", "7l << 32 | 99")]
         .map(|(n, c)| stand_in(n, c));
