@@ -41,18 +41,13 @@ pub fn argument(file: &File) -> Argument {
         }
     }
     let support: Vec<usize> = (0..last).filter(|number| needed[*number]).collect();
-    let dead = dead(file, support.iter().copied());
+    let dead = support.iter().filter(|number| file.steps[**number].kind == 0);
+    let dead = dead.map(|number| (*number, file.steps[*number].entries[0])).collect();
     let closures = support.iter().filter_map(|number| closure(file, *number)).collect();
     let count = |rule: &Rule| file.steps.iter().filter(|step| step.rule == rule.number).count();
     let rules = RULES.iter().map(|rule| (rule, count(rule))).filter(|(_, count)| *count > 0).collect();
     let unnamed = named[..last].iter().filter(|named| !**named).count();
     Argument { support, dead, closures, rules, unnamed }
-}
-
-/// Those of these steps that say that a set is dead, with the set.
-pub fn dead(file: &File, steps: impl Iterator<Item = usize>) -> Vec<(usize, u16)> {
-    let dead = steps.filter(|number| file.steps[*number].kind == 0);
-    dead.map(|number| (number, file.steps[number].entries[0])).collect()
 }
 
 /// The premises that the step's rule uses.

@@ -37,8 +37,8 @@ pub enum Why {
     Shape(ShapeFault),
     /// Reply 11.
     Untrue(Counterexample),
-    /// Reply 12: no step fails, and these say that a set is dead, with the set.
-    NotUnsolvable(Vec<(usize, u16)>),
+    /// Reply 12.
+    NotUnsolvable,
     /// Reply 18.
     Numbers(ListFault),
     /// The check refuses a step, and the search for the reason finds none: one of them is wrong.
@@ -148,7 +148,7 @@ fn reason(bytes: &[u8], file: &File, limits: Limits, fault: &Fault) -> Why {
         9 => pattern::mismatch(file, step).map(Why::Pattern),
         10 => shape::sides(file, step).err().map(Why::Shape),
         11 => counterexample::find(file, step).map(Why::Untrue),
-        _ => Some(Why::NotUnsolvable(accepted::dead(file, 0..file.steps.len()))),
+        _ => Some(Why::NotUnsolvable),
     };
     found.unwrap_or(Why::Unknown)
 }

@@ -128,18 +128,16 @@ fn the_last_step() {
         text.contains("\nstep 6 SD dead 1 by 5 4\nThe last step has to say \"unsolvable\", by CI or CG.\n")
     );
     assert!(
-        text.contains(
-            "\nStep 6 says that set 1 init is dead: \"CI unsolvable by 6\" would do.\n\nNo step fails"
-        ),
+        text.ends_with("\nStep 6 says that set 1 init is dead: \"CI unsolvable by 6\" would do.\n"),
         "{text}"
     );
     d.steps.truncate(4);
     let text = explained(&d.encode()).text;
-    assert!(text.contains("by CI or CG.\n\nNo step fails"), "{text}");
+    assert!(text.ends_with("by CI or CG.\n"), "{text}");
     let mut d = sample();
     d.steps.push(d.steps[0]);
     let text = explained(&d.encode()).text;
-    assert!(text.contains("\nStep 7 says so, but it is not the last.\n\nNo step fails"), "{text}");
+    assert!(text.ends_with("\nStep 7 says so, but it is not the last.\n"), "{text}");
 }
 
 /// The same of generated files: the first step that says "unsolvable", or else the first ones that say that
@@ -149,7 +147,7 @@ fn last_steps_of_generated_files() {
     let mut seen = 0;
     for case in cases(36, 6000).filter(|case| case.is_check()) {
         let explained = explained(&case.bytes);
-        if !matches!(explained.why, Why::NotUnsolvable(_)) {
+        if explained.why != Why::NotUnsolvable {
             assert!(!matches!(explained.reply, Reply::Refused { number: 12, .. }));
             continue;
         }
@@ -161,10 +159,7 @@ fn last_steps_of_generated_files() {
             draft.steps.iter().position(says)
         };
         let told = |k: usize, rule: &str| format!(" is dead: \"{rule} unsolvable by {k}\" would do.\n");
-        let ends = |end: &str| {
-            let before = explained.text.split_once("\nNo step fails: ").expect("what is true").0;
-            assert!(before.ends_with(end), "{end}\n{}", explained.text)
-        };
+        let ends = |end: &str| assert!(explained.text.ends_with(end), "{end}\n{}", explained.text);
         match (draft.steps.iter().position(|s| s.kind == 3), dead(1), dead(2)) {
             (Some(k), _, _) => ends(&format!("by CI or CG.\nStep {k} says so, but it is not the last.\n")),
             (None, _, Some(k)) => ends(&told(k, "CG")),

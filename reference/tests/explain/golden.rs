@@ -23,7 +23,7 @@ fn samples_word_for_word() {
         assert_eq!(explain(&bytes, &Names::default()), expected, "{name}");
         names.push(name);
     }
-    assert_eq!(names.len(), 21, "{names:?}");
+    assert_eq!(names.len(), 19, "{names:?}");
 }
 
 fn names() -> Names {

@@ -10,7 +10,6 @@ mod golden;
 mod layout;
 mod pattern;
 mod shape;
-mod unfinished;
 mod untrue;
 
 use std::collections::BTreeMap;

@@ -3,7 +3,6 @@
 mod accepted;
 mod beginning;
 mod counterexample;
-mod dead;
 mod fields;
 mod layout;
 mod pattern;
@@ -41,7 +40,7 @@ fn layout_words(bytes: &[u8], read: &Examined, fault: &LayoutFault, names: &Name
     [head, before, vec![String::new()], words].concat()
 }
 
-/// The step, what is wrong with it, and what is true all the same.
+/// The step, and what is wrong with it.
 fn step_words(text: &Text, file: &File, number: usize, why: &Why) -> Vec<String> {
     let step = &file.steps[number];
     let head = [vec![text.step(number)], step_head(text, step, why)].concat();
@@ -53,38 +52,11 @@ fn step_words(text: &Text, file: &File, number: usize, why: &Why) -> Vec<String>
         Why::Pattern(mismatch) => pattern::words(text, step, mismatch),
         Why::Shape(fault) => shape::words(text, step.rule, fault),
         Why::Untrue(found) => counterexample::words(text, file, step, found),
-        Why::NotUnsolvable(dead) => [last_step(text, file), all_true(text, file, dead)].concat(),
+        Why::NotUnsolvable => last_step(text, file),
         Why::Unknown => vec![UNKNOWN.to_string()],
         Why::Accepted(_) | Why::Layout(_) | Why::Numbers(_) => Vec::new(),
     };
-    let before = match why {
-        Why::NotUnsolvable(_) | Why::Unknown => None,
-        _ => true_before(number),
-    };
-    [head, lines, Vec::from_iter(before)].concat()
-}
-
-/// Replies 8 to 11: the steps before the failing one passed, where there are any.
-fn true_before(number: usize) -> Option<String> {
-    match number {
-        0 => None,
-        1 => Some("The judgement of the one step before step 1 is true.".into()),
-        _ => Some(format!("The judgements of the {number} steps before step {number} are true.")),
-    }
-}
-
-/// Reply 12: all steps passed; the sets that they show dead, where there are any.
-fn all_true(text: &Text, file: &File, dead: &[(usize, u16)]) -> Vec<String> {
-    let head = match file.steps.len() {
-        1 => "No step fails: the one judgement that the file lists is true.".into(),
-        count => format!("No step fails: each of the {count} judgements that the file lists is true."),
-    };
-    let mut lines = vec![String::new(), head];
-    if !dead.is_empty() {
-        lines.extend(dead::in_turn(text, file, dead));
-        lines.extend(dead::parts(text, file, dead.iter().map(|(_, set)| *set)));
-    }
-    lines
+    [head, lines].concat()
 }
 
 const UNKNOWN: &str =
