@@ -1,4 +1,4 @@
-// The reading place, which walks the file without copying it: thin functions over those of `bytes`, and the heads that are read by them.
+// The reading place, which walks the file without copying it: thin functions over those of `file_numbers`, and the heads that are read by them.
 #![tactic(auto)]
 
 ghost use Rattle.std.specs.Prelude.{◌≡◌, ◌+◌, ◌^◌, ◌<◌};

@@ -2,12 +2,10 @@
 -- Assumes nothing.
 use Prim.Native.Nat.{◌/◌}
 use lib.ListN.{length}
-use borrow.Author.Tests.{eqb-true}
 use Rattle.meaning.specs.Layout.{items, ascending, mask, reference, clause}
 use Rattle.file_numbers.specs.ClauseRule.{clause_rule}
 use Rattle.bodies.proofs.Faults.{from_unit}
-use Rattle.bodies.proofs.BodyLaws.{form_fits_lem, form_says}
-use borrow.Author.Rules.{rules}
+use Rattle.bodies.proofs.BodyLaws.{form_says}
 use Rattle.bodies.proofs.body.Goals as goal
 
 pub returns-in-Numbers : goal.returns-in-Numbers

@@ -1,8 +1,8 @@
-use Prim.Native.Nat.{◌-◌, ◌*◌, ◌/◌, ◌≤◌}
+use Prim.Native.Nat.{◌*◌, ◌/◌}
 use lib.ListN.{length}
 use Rattle.meaning.specs.Layout.{clause}
 use Rattle.file_numbers.specs.ClauseRule.{clause_rule}
-use Rattle.bodies.proofs.BodyLaws.{items_start, items_done, ClausesLeft, clause_positive, clause_negative, clause_rule_lem, clause_next}
+use Rattle.bodies.proofs.BodyLaws.{items_done, clause_positive, clause_negative, clause_rule_lem, clause_next}
 use borrow.Author.Rules.{rules}
 use Rattle.bodies.proofs.clauses.Goals as goal
 

@@ -1,9 +1,5 @@
-use Prim.Native.Nat.{◌-◌, ◌*◌, ◌/◌, ◌≤◌}
-use lib.ListN.{length}
-use Rattle.meaning.specs.Layout.{clause}
-use Rattle.file_numbers.specs.ClauseRule.{clause_rule}
-use Rattle.bodies.proofs.BodyLaws.{items_start, items_done, ClausesLeft, clause_positive, clause_negative, clause_rule_lem, clause_next}
-use borrow.Author.Rules.{rules}
+use Prim.Native.Nat.{◌-◌, ◌≤◌}
+use Rattle.bodies.proofs.BodyLaws.{ClausesLeft}
 use Rattle.bodies.proofs.clauses.Given as goal
 
 -- `bodies::clauses` meets its contract.

@@ -1,10 +1,6 @@
-use Prim.Native.Nat.{◌+◌, ◌-◌, ◌*◌, ◌/◌, ◌≤◌}
-use native.Mathlib.Omega.{arith}
-use lib.ListN.{length}
+use Prim.Native.Nat.{◌-◌, ◌*◌, ◌≤◌}
 use Rattle.meaning.specs.Layout.{reference}
-use Rattle.bodies.proofs.FieldLaws.{reference_in, reference_high}
-use Rattle.bodies.proofs.BodyLaws.{AscendingLeft, numbers_start, numbers_end, number_bad, number_low, number_next}
-use borrow.Author.Rules.{rules}
+use Rattle.bodies.proofs.BodyLaws.{AscendingLeft}
 use Rattle.bodies.proofs.numbers.Given as goal
 
 -- `bodies::numbers` meets its contract.

@@ -2,8 +2,6 @@
 -- Assumes nothing.
 use mathlib.Core.Path.{ap, ◌∙◌, sym}
 use mathlib.Core.Bool.{Bool}
-use native.Mathlib.Omega.{arith}
-use lib.Count.{ones-le}
 use borrow.Author.Rules.{rules}
 use Rattle.file_numbers.specs.ClauseRule.{clause_rule}
 use Rattle.bodies.proofs.CountLaws.{horn_count, two_count}

@@ -1,9 +1,9 @@
-use Prim.Native.Nat.{◌+◌, ◌-◌, ◌*◌, ◌/◌, ◌≤◌}
+use Prim.Native.Nat.{◌+◌, ◌*◌, ◌/◌}
 use native.Mathlib.Omega.{arith}
 use lib.ListN.{length}
 use Rattle.meaning.specs.Layout.{mask}
 use Rattle.bodies.proofs.FieldLaws.{mask_in, mask_high}
-use Rattle.bodies.proofs.BodyLaws.{ItemsLeft, items_start, items_done, item_bad, item_next}
+use Rattle.bodies.proofs.BodyLaws.{items_done, item_bad, item_next}
 use borrow.Author.Rules.{rules}
 use Rattle.bodies.proofs.states.Goals as goal
 

@@ -1,10 +1,6 @@
-use Prim.Native.Nat.{◌+◌, ◌-◌, ◌*◌, ◌/◌, ◌≤◌}
-use native.Mathlib.Omega.{arith}
-use lib.ListN.{length}
+use Prim.Native.Nat.{◌-◌, ◌*◌, ◌≤◌}
 use Rattle.meaning.specs.Layout.{mask}
-use Rattle.bodies.proofs.FieldLaws.{mask_in, mask_high}
-use Rattle.bodies.proofs.BodyLaws.{ItemsLeft, items_start, items_done, item_bad, item_next}
-use borrow.Author.Rules.{rules}
+use Rattle.bodies.proofs.BodyLaws.{ItemsLeft}
 use Rattle.bodies.proofs.states.Given as goal
 
 -- `bodies::states` meets its contract.

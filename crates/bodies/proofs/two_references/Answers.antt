@@ -2,7 +2,6 @@
 -- Assumes nothing.
 use Rattle.meaning.specs.Layout.{reference}
 use Rattle.bodies.proofs.Faults.{from_on, from_stop, from_unit}
-use borrow.Author.Rules.{rules}
 use Rattle.bodies.proofs.two_references.Goals as goal
 
 pub returns-in-None : goal.returns-in-None

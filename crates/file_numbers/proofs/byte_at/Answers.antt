@@ -1,9 +1,8 @@
--- `bytes::byte_at` meets its contract.
+-- `file_numbers::byte_at` meets its contract.
 -- Assumes nothing.
 use borrow.Author.Rules.{rules}
 use mathlib.Core.Path.{sym, ◌∙◌}
 use Rattle.file_numbers.proofs.ByteLaws.{number_in, number_past, number_one}
-
 use Rattle.file_numbers.proofs.byte_at.Goals as goal
 
 pub returns-then-at-file : goal.returns-then-at-file

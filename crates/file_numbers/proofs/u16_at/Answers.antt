@@ -1,9 +1,8 @@
--- `bytes::u16_at` meets its contract.
+-- `file_numbers::u16_at` meets its contract.
 -- Assumes nothing.
 use borrow.Author.Rules.{rules}
 use mathlib.Core.Path.{sym, ◌∙◌}
 use Rattle.file_numbers.proofs.ByteLaws.{number_in, number_past}
-
 use Rattle.file_numbers.proofs.u16_at.Goals as goal
 
 pub returns-then-file-lt2 : goal.returns-then-file-lt2

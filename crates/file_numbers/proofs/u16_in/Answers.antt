@@ -1,9 +1,8 @@
--- `bytes::u16_in` meets its contract.
+-- `file_numbers::u16_in` meets its contract.
 -- Assumes nothing.
 use mathlib.Core.Path.{sym, ◌∙◌}
 use Rattle.file_numbers.proofs.ByteLaws.{number_two}
 use borrow.Author.Rules.{rules}
-
 use Rattle.file_numbers.proofs.u16_in.Goals as goal
 
 pub returns : goal.returns

@@ -1,9 +1,8 @@
--- `bytes::u32_at` meets its contract.
+-- `file_numbers::u32_at` meets its contract.
 -- Assumes nothing.
 use borrow.Author.Rules.{rules}
 use mathlib.Core.Path.{sym, ◌∙◌}
 use Rattle.file_numbers.proofs.ByteLaws.{number_in, number_past}
-
 use Rattle.file_numbers.proofs.u32_at.Goals as goal
 
 pub returns-then-file-lt4 : goal.returns-then-file-lt4

@@ -1,9 +1,8 @@
--- `bytes::u64_in` meets its contract.
+-- `file_numbers::u64_in` meets its contract.
 -- Assumes nothing.
 use borrow.Author.Rules.{rules}
 use native.Mathlib.Omega.{arith}
 use Rattle.file_numbers.proofs.ByteLaws.{number_cat}
-
 use Rattle.file_numbers.proofs.u64_in.Goals as goal
 
 pub returns : goal.returns

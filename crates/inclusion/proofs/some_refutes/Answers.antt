@@ -61,7 +61,7 @@ loop-i-preserved c =
     let n = (read_file_lem _ c.requires.known.0.read).task.few_actions in
     let v = d.loop-i.invariant in (
       elim c.if-is_marked.branch [
-        then-is_marked+else-one_refutes w ↦ none_tried _ _ _ v.0 w.action-a.ensures w.one_refutes.ensures w.if-one_refutes.false
+        | then-is_marked+else-one_refutes w ↦ none_tried _ _ _ v.0 w.action-a.ensures w.one_refutes.ensures w.if-one_refutes.false
         | else-is_marked w ↦ none_skipped _ _ _ v.0 c.is_marked.ensures
             (d.action_marks-marks.ensures _ (omega arith)) w.if-is_marked.false
       ],

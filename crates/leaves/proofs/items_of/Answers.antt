@@ -1,6 +1,5 @@
 -- `leaves::items_of` meets its contract: each case gives its own items.
 -- Assumes nothing.
-use borrow.Author.Rules.{rules}
 use Rattle.leaves.specs.Leaves.{items_of}
 use Rattle.std.proofs.Common.{refl}
 use Rattle.leaves.proofs.items_of.Goals as goal

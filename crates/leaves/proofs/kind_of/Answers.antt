@@ -1,6 +1,5 @@
 -- `leaves::kind_of` meets its contract: each case gives its own number.
 -- Assumes nothing.
-use borrow.Author.Rules.{rules}
 use Rattle.leaves.specs.Leaves.{kind_of}
 use Rattle.std.proofs.Common.{refl}
 use Rattle.leaves.proofs.kind_of.Goals as goal

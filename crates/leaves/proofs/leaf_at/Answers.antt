@@ -1,6 +1,5 @@
 -- `leaves::leaf_at` meets its contract.
 -- Assumes nothing.
-use borrow.Author.Rules.{rules}
 use Rattle.leaves.specs.Leaves.{leaf_in}
 use Rattle.leaves.proofs.leaf_at.Goals as goal
 

@@ -2,7 +2,6 @@
 -- Assumes nothing.
 use Prim.Native.Nat.{◌/◌, ◌%◌}
 use lib.Dec.{eqb}
-use borrow.Author.Rules.{rules}
 use Rattle.leaves.specs.Leaves.{word_leaf}
 use Rattle.leaves.proofs.leaf_of.Goals as goal
 

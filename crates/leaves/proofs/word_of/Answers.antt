@@ -3,7 +3,6 @@
 use mathlib.Core.Path.{ap}
 use native.Mathlib.Omega.{arith}
 use Rattle.certificate.specs.declared.Span.{Span}
-use borrow.Author.Rules.{rules}
 use Rattle.leaves.proofs.WordLaws.{kind_le, flag_le, word_leaf_lem}
 use Rattle.leaves.proofs.word_of.Goals as goal
 

@@ -1,9 +1,8 @@
 -- `lookup::action`: past the last action the default, else what stands at its place.
 -- Assumes nothing.
 use mathlib.Core.Path.{ap, ◌∙◌}
-use Prim.Native.Nat.{◌*◌, ◌≤◌}
+use Prim.Native.Nat.{◌≤◌}
 use native.Mathlib.Nat.{mul-le-mul_right}
-use borrow.Author.Rules.{rules}
 use native.Mathlib.Omega.{arith}
 use Rattle.meaning.proofs.Places.{places}
 use Rattle.certificate.specs.declared.Actions.{Actions}

@@ -1,7 +1,6 @@
 -- `lookup::action_set`: where the table has no place the default, else what stands there.
 -- Assumes nothing.
 use mathlib.Core.Path.{sym, ◌∙◌}
-use borrow.Author.Rules.{rules}
 use Rattle.certificate.proofs.KnownLaws.{known_actions_here, known_actions_none, known_actions_room}
 use Rattle.lookup.proofs.action_set.Goals as goal
 

@@ -1,7 +1,6 @@
 -- `lookup::judgement`: past the last step the default, else what the step says.
 -- Assumes nothing.
 use mathlib.Core.Path.{ap}
-use borrow.Author.Rules.{rules}
 use Rattle.certificate.specs.declared.Step as code
 use Rattle.certificate.specs.Views.{step_of, judgement_at}
 use Rattle.certificate.proofs.KnownLaws.{placed_no_step}

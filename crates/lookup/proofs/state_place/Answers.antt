@@ -1,7 +1,6 @@
 -- `lookup::state_place` meets its contract: a number past its part of the table has no place.
 -- Assumes nothing.
 use mathlib.Core.Path.{sym}
-use borrow.Author.Rules.{rules}
 use Rattle.certificate.specs.Index.{state_place}
 use Rattle.certificate.proofs.IndexLaws.{in_part, past_part}
 use Rattle.lookup.proofs.state_place.Goals as goal

@@ -1,7 +1,6 @@
 -- `lookup::state_set`: where the table has no place the default, else what stands there.
 -- Assumes nothing.
 use mathlib.Core.Path.{sym, ◌∙◌}
-use borrow.Author.Rules.{rules}
 use Rattle.certificate.proofs.KnownLaws.{known_state_here, known_state_none, known_state_room}
 use Rattle.lookup.proofs.state_set.Goals as goal
 

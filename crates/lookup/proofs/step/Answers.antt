@@ -2,7 +2,6 @@
 -- Assumes nothing.
 use mathlib.Core.Path.{ap, ◌∙◌}
 use native.Mathlib.Omega.{arith}
-use borrow.Author.Rules.{rules}
 use Rattle.certificate.specs.Views.{step_of}
 use Rattle.certificate.proofs.KnownLaws.{placed_step, placed_fit}
 use Rattle.lookup.proofs.step.Goals as goal

@@ -1,9 +1,6 @@
-use mathlib.Core.Path.{◌≡◌}
-use Prim.Native.Nat.{◌-◌, ◌≤◌}
 use native.Mathlib.Omega.{arith}
-use lib.ListN.{length}
 use borrow.Author.Rules.{rules}
-use Rattle.numbering.proofs.ListLaws.{Tabled, tabled_none, more, other_length, told_refused, told_fault, told_lawful}
+use Rattle.numbering.proofs.ListLaws.{tabled_none, more, other_length, told_refused, told_fault, told_lawful}
 use Rattle.numbering.proofs.numbering_of.Goals as goal
 
 pub returns-then-count-ne28-clause-reply_value : goal.returns-then-count-ne28-clause-reply_value

@@ -1,9 +1,7 @@
 use mathlib.Core.Path.{◌≡◌}
 use Prim.Native.Nat.{◌-◌, ◌≤◌}
-use native.Mathlib.Omega.{arith}
 use lib.ListN.{length}
-use borrow.Author.Rules.{rules}
-use Rattle.numbering.proofs.ListLaws.{Tabled, tabled_none, more, other_length, told_refused, told_fault, told_lawful}
+use Rattle.numbering.proofs.ListLaws.{Tabled}
 use Rattle.numbering.proofs.numbering_of.Given as goal
 
 -- `numbering_of` meets its contract. The loop's invariant: the table has the rules of the first k bytes, none of which is a fault.

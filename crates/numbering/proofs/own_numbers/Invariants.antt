@@ -1,9 +1,6 @@
 use mathlib.Core.Path.{◌≡◌}
 use Prim.Native.Nat.{ℕ, ◌-◌, ◌≤◌, ◌<◌}
-use native.Mathlib.Omega.{arith}
 use lib.ListN.{length, get_or}
-use borrow.Author.Rules.{rules}
-use Rattle.numbering.proofs.ListLaws.{own_more}
 use Rattle.numbering.proofs.own_numbers.Given as goal
 
 -- `own_numbers` meets its contract. The loop's invariant: the bytes before x stand for themselves.

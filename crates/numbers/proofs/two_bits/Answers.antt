@@ -2,8 +2,6 @@
 -- Assumes nothing.
 use mathlib.Core.Path.{refl}
 use native.Mathlib.Omega.{arith}
-use borrow.Author.Rules.{rules}
-
 use Rattle.numbers.proofs.two_bits.Goals as goal
 
 pub returns-then-number-lt29 : goal.returns-then-number-lt29

@@ -1,8 +1,5 @@
 -- `printing::go_on_line`: three puts, one after the other.
 -- Assumes nothing.
-use native.Mathlib.Omega.{arith}
-use lib.ListN.{length-take}
-use borrow.Author.Rules.{rules}
 use Rattle.printing.specs.Lines.{go_on_from}
 use Rattle.printing.proofs.LineLaws.{go_on_by_parts}
 use Rattle.printing.proofs.go_on_line.Goals as goal
@@ -14,4 +11,4 @@ returns-clause-go_on_line c =
     let number = end in
     let words = number in
     go_on_by_parts words.args.step _ _ _ words.put-words.ensures.line_after
-          number.put_number-number.ensures.by_index end.put.ensures.line_after
+    number.put_number-number.ensures.by_index end.put.ensures.line_after

@@ -3,12 +3,9 @@
 use mathlib.Core.Path.{refl, ap, ◌∙◌}
 use mathlib.Core.List.{List, ◌++◌}
 use Prim.Native.Nat.{ℕ}
-use native.Mathlib.Omega.{arith}
 use lib.ListN.{take}
 use Rattle.io.specs.Digits.{last_digits}
-use borrow.Author.Rules.{rules}
 use Rattle.printing.specs.Lines.{Numeral}
-use Rattle.printing.proofs.LineLaws.{at_most_twenty}
 use Rattle.printing.proofs.put_number.Goals as goal
 
 pub returns-clause-by_index : goal.returns-clause-by_index
@@ -16,8 +13,7 @@ unfolding Numeral
 returns-clause-by_index c =
     let d = c.decimal-k in
     let args = c.args in
-    let fits = c.ranges.n.fits in
-    (
-          last_digits 10 d.result args.n,
-          ((d.result, (d.ensures.len, refl)), c.put.ensures.line_after ∙ ap (λ (t : List ℕ). take args.at args.line.now ++ t) d.ensures.digits),
-        )
+    let fits = c.ranges.n.fits in (
+      last_digits 10 d.result args.n,
+      ((d.result, (d.ensures.len, refl)), c.put.ensures.line_after ∙ ap (λ (t : List ℕ). take args.at args.line.now ++ t) d.ensures.digits),
+    )

@@ -1,8 +1,5 @@
 -- `printing::refused_line`: five puts, one after the other.
 -- Assumes nothing.
-use native.Mathlib.Omega.{arith}
-use lib.ListN.{length-take}
-use borrow.Author.Rules.{rules}
 use Rattle.printing.specs.Lines.{refused}
 use Rattle.printing.proofs.LineLaws.{refused_by_parts}
 use Rattle.printing.proofs.refused_line.Goals as goal
@@ -17,4 +14,4 @@ returns-clause-refused_line c =
     let word = first in
     let args = word.args in
     refused_by_parts args.number args.place _ _ _ _ _ word.put-word.ensures.line_after first.put_number-first.ensures.by_index
-          space.put-space.ensures.line_after second.put_number-second.ensures.by_index end.put.ensures.line_after
+    space.put-space.ensures.line_after second.put_number-second.ensures.by_index end.put.ensures.line_after

@@ -2,7 +2,6 @@
 -- Assumes nothing.
 use borrow.Author.Rules.{rules}
 use Rattle.task.proofs.Bits.{after_code}
-
 use Rattle.task.proofs.after.Goals as goal
 
 pub returns : goal.returns

@@ -6,7 +6,6 @@ use native.Mathlib.Omega.{arith}
 use lib.Pow.{pow_pos}
 use borrow.Author.Rules.{rules}
 use Rattle.task.proofs.MaskLaws.{shifted_one, below_64, from_64}
-
 use Rattle.task.proofs.all_facts.Goals as goal
 
 pub overflow_sub-result : goal.overflow_sub-result

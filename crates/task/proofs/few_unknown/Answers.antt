@@ -2,7 +2,6 @@
 -- Assumes nothing.
 use borrow.Author.Rules.{rules}
 use Rattle.task.proofs.Names.{few_code}
-
 use Rattle.task.proofs.few_unknown.Goals as goal
 
 pub returns : goal.returns

@@ -1,12 +1,10 @@
 -- `task::is_as_told` meets its contract.
 -- Assumes nothing.
-use borrow.Author.Rules.{rules}
 use mathlib.Core.Path.{ap}
 use mathlib.Core.Bool.{Bool, ◌&&◌}
 use lib.Bits.{bit_and}
 use lib.Dec.{eqb}
 use Rattle.task.specs.Facts.{all_off}
-
 use Rattle.task.proofs.is_as_told.Goals as goal
 
 pub returns : goal.returns

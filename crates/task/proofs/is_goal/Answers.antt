@@ -2,7 +2,6 @@
 -- Assumes nothing.
 use borrow.Author.Rules.{rules}
 use Rattle.task.specs.Inner.{at_goal}
-
 use Rattle.task.proofs.is_goal.Goals as goal
 
 pub returns : goal.returns

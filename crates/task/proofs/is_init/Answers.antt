@@ -2,7 +2,6 @@
 -- Assumes nothing.
 use borrow.Author.Rules.{rules}
 use Rattle.task.proofs.Names.{init_code}
-
 use Rattle.task.proofs.is_init.Goals as goal
 
 pub returns : goal.returns

@@ -1,6 +1,5 @@
 -- `turned::two_turned` meets its contract.
 -- Assumes nothing.
-use borrow.Author.Rules.{rules}
 use native.Mathlib.Omega.{arith}
 use Rattle.turned.specs.Turned.{turned2}
 use Rattle.turned.proofs.two_turned.Goals as goal

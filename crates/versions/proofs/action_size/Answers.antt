@@ -1,6 +1,5 @@
 -- `versions::action_size` meets its contract.
 -- Assumes nothing.
-use borrow.Author.Rules.{rules}
 use native.Mathlib.Omega.{arith}
 use Rattle.meaning.proofs.Places.{places}
 use Rattle.versions.proofs.action_size.Goals as goal

@@ -1,7 +1,6 @@
 -- `versions::goal_span` meets its contract.
 -- Assumes nothing.
 use mathlib.Core.Path.{sym, ◌∙◌}
-use borrow.Author.Rules.{rules}
 use borrow.Author.Tests.{not-true, not-false}
 use Rattle.meaning.proofs.Places.{goal_first, goal_later}
 use Rattle.versions.proofs.goal_span.Goals as goal

@@ -1,6 +1,5 @@
 -- `words::four_hit` meets its contract.
 -- Assumes nothing.
-use borrow.Author.Rules.{rules}
 use Rattle.words.proofs.HitLaws.{four_zero}
 use Rattle.words.specs.Words.{Misses, words_at}
 use Rattle.words.proofs.four_hit.Goals as goal

@@ -1,7 +1,4 @@
-use borrow.Author.Rules.{rules}
-use Rattle.words.proofs.HitLaws.{missed_one, missed_more}
-use Rattle.words.specs.Words.{Misses, MissedAt, words_at}
-use native.Mathlib.Omega.{arith}
+use Rattle.words.specs.Words.{MissedAt}
 use Prim.Native.Nat.{◌≤◌, ◌-◌}
 use Rattle.words.proofs.next_hit.Given as goal
 

@@ -1,7 +1,4 @@
-use borrow.Author.Rules.{rules}
-use Rattle.words.proofs.HitLaws.{missed_more}
 use Rattle.words.specs.Words.{MissedAt}
-use native.Mathlib.Omega.{arith}
 use Prim.Native.Nat.{◌≤◌, ◌-◌}
 use Rattle.words.proofs.past_fours.Given as goal
 

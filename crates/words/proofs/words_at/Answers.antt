@@ -2,7 +2,6 @@
 -- Assumes nothing.
 use Rattle.words.specs.Words.{words_at}
 use Rattle.file_numbers.specs.Numbers.{clause_at}
-use borrow.Author.Rules.{rules}
 use Rattle.words.proofs.words_at.Goals as goal
 
 pub returns : goal.returns

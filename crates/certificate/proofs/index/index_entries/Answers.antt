@@ -1,10 +1,8 @@
-use mathlib.Core.Path.{◌≡◌, refl, ap, ◌∙◌}
-use Prim.Native.Nat.{◌+◌, ◌-◌, ◌*◌, ◌≤◌}
+use mathlib.Core.Path.{refl, ap, ◌∙◌}
 use native.Mathlib.Omega.{arith}
-use borrow.Author.Rules.{rules}
 use Rattle.certificate.specs.Views.{entry_place}
-use Rattle.certificate.specs.Index.{capped, Indexed}
-use Rattle.certificate.proofs.IndexLaws.{place_more, indexed_none, indexed_more, indexed_full, indexed_all}
+use Rattle.certificate.specs.Index.{capped}
+use Rattle.certificate.proofs.IndexLaws.{place_more, indexed_none, indexed_more}
 use Rattle.certificate.proofs.index.index_entries.Goals as goal
 
 pub loop-k-init : goal.loop-k-init

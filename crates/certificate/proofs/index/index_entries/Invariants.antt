@@ -1,10 +1,7 @@
-use mathlib.Core.Path.{◌≡◌, refl, ap, ◌∙◌}
+use mathlib.Core.Path.{◌≡◌}
 use Prim.Native.Nat.{◌+◌, ◌-◌, ◌*◌, ◌≤◌}
-use native.Mathlib.Omega.{arith}
-use borrow.Author.Rules.{rules}
 use Rattle.certificate.specs.Views.{entry_place}
-use Rattle.certificate.specs.Index.{capped, Indexed}
-use Rattle.certificate.proofs.IndexLaws.{place_more, indexed_none, indexed_more, indexed_full, indexed_all}
+use Rattle.certificate.specs.Index.{Indexed}
 use Rattle.certificate.proofs.index.index_entries.Given as goal
 
 -- `index::index_entries` meets its contract. The loop's invariant: `at` is the place of entry k, and the table has the places of the k

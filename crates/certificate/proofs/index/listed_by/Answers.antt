@@ -1,6 +1,5 @@
 -- `index::listed_by` meets its contract: each case gives its own states.
 -- Assumes nothing.
-use borrow.Author.Rules.{rules}
 use Rattle.certificate.specs.Rows.{listed_by}
 use Rattle.std.proofs.Common.{refl}
 use Rattle.certificate.proofs.index.listed_by.Goals as goal

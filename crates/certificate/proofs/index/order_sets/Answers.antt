@@ -1,12 +1,11 @@
-use mathlib.Core.Path.{◌≡◌, ap, subst, sym, ◌∙◌}
-use Prim.Native.Nat.{ℕ, ◌-◌, ◌≤◌}
-use native.Mathlib.Omega.{arith}
+use mathlib.Core.Path.{ap, subst, sym, ◌∙◌}
+use Prim.Native.Nat.{ℕ}
 use borrow.Author.Rules.{rules}
 use Rattle.sorting.specs.Rows.{Room, Ordered, Kept}
 use Rattle.certificate.specs.declared.Span.{Span}
 use Rattle.certificate.specs.Views.{state_entry_at}
-use Rattle.certificate.specs.Rows.{states_of, first_row, states_at, WithRows}
-use Rattle.certificate.proofs.OrderLaws.{set_there, rows_none, still, set_room, rows_more}
+use Rattle.certificate.specs.Rows.{states_of, first_row}
+use Rattle.certificate.proofs.OrderLaws.{still, set_room, rows_more}
 use Rattle.certificate.proofs.index.order_sets.Goals as goal
 
 pub order_rows-requires : goal.order_rows-requires

@@ -1,11 +1,10 @@
 -- `index::put_entries` meets its contract: two fillings of a table of zeros, the second of which leaves the first as it is, and then the
 -- rows, where the states of some set do not ascend.
 -- Assumes nothing.
-use mathlib.Core.Path.{refl, ◌∙◌}
-use borrow.Author.Rules.{rules}
+use mathlib.Core.Path.{refl}
 use borrow.Author.Tests.{not-false}
 use Rattle.task.proofs.Tests.{holds}
-use Rattle.certificate.proofs.OrderLaws.{to_order, known_ascending, marked_size, to_order_marked, known_rows}
+use Rattle.certificate.proofs.OrderLaws.{to_order, known_ascending, to_order_marked, known_rows}
 use Rattle.std.proofs.lemmas.Bool.{not_from_true}
 use Rattle.certificate.proofs.index.put_entries.Goals as goal
 

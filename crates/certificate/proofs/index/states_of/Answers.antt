@@ -1,6 +1,5 @@
 -- `index::states_of` meets its contract: each case gives its own states.
 -- Assumes nothing.
-use borrow.Author.Rules.{rules}
 use Rattle.certificate.specs.Rows.{listed_by, states_of}
 use Rattle.certificate.proofs.index.states_of.Goals as goal
 

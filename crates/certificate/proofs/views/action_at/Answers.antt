@@ -1,7 +1,6 @@
 -- `views::action_at` meets its contract: it is made of the numbers that are read.
 -- Assumes nothing.
 use Rattle.certificate.specs.Views.{action_in}
-use borrow.Author.Rules.{rules}
 use Rattle.certificate.proofs.views.action_at.Goals as goal
 
 pub returns : goal.returns

@@ -2,7 +2,6 @@
 -- Assumes nothing.
 use mathlib.Core.Path.{ap, ◌∙◌}
 use Rattle.certificate.specs.Views.{actions_of, action_entry_at}
-use borrow.Author.Rules.{rules}
 use Rattle.certificate.proofs.views.action_entry.Goals as goal
 
 pub returns : goal.returns

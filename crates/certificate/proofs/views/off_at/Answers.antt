@@ -1,7 +1,6 @@
 -- `views::off_at` meets its contract.
 -- Assumes nothing.
 use mathlib.Core.Path.{refl}
-use borrow.Author.Rules.{rules}
 use borrow.Author.Tests.{eq-eqb, ne_eqb}
 use Rattle.certificate.specs.Views.{off_in}
 use Rattle.certificate.proofs.views.off_at.Goals as goal
