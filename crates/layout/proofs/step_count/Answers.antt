@@ -1,4 +1,4 @@
--- `layout::step_count_lem` meets its contract.
+-- `layout::step_count` meets its contract.
 -- Assumes nothing.
 use Rattle.layout.proofs.SectionChecks.{step_count_none, step_count_over, step_count_fine}
 use borrow.Author.Rules.{rules}
