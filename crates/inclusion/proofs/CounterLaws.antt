@@ -69,7 +69,7 @@ module _ (bytes : List ℕ) (index : List ℕ) (k : Known bytes index) (rule a b
   ys = right_of f rule a b
 
   one : (c : Action) → CounteredBy bytes (ends_of f.task) left right g c ↔ Refuted f c xs ys
-  one c = countered_refuted bytes index k c _ _ xs ys h.basic_left h.basic_right h.left_leaves_lem h.right_leaves_lem
+  one c = countered_refuted bytes index k c _ _ xs ys h.basic_left h.basic_right h.left_leaves_are h.right_leaves_are
 
   some : (x : ℕ) → ((c : Action) × ActionsOf f x c × CounteredBy bytes (ends_of f.task) left right g c) ↔ Counter f (ActionsOf f x) xs ys
   some x =

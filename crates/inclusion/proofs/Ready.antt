@@ -123,14 +123,14 @@ module _ (bytes : List ℕ) (index : List ℕ) (k : Known bytes index) where
     ys = right_of f rule a b
 
     fewer_left : g.left_count ≤ length left
-    fewer_left = leaves_room left g.left_count xs h.left_leaves_lem h.left_count_lem
+    fewer_left = leaves_room left g.left_count xs h.left_leaves_are h.left_count_is
 
     -- what is so of each leaf of the left entries, or of the right ones, is so of the array's
     in_left : (P : Leaf → Type 0) → Each P (map (leaf_of index f) xs) → Each P (leaves_in left g.left_count)
-    in_left P = subst (Each P) (sym h.left_leaves_lem)
+    in_left P = subst (Each P) (sym h.left_leaves_are)
 
     in_right : (P : Leaf → Type 0) → Each P (map (leaf_of index f) ys) → Each P (leaves_in right g.right_count)
-    in_right P = subst (Each P) (sym h.right_leaves_lem)
+    in_right P = subst (Each P) (sym h.right_leaves_are)
 
     anchor : g.listed ≡ true → Anchored bytes ends (leaf_in left g.anchor)
     anchor q =
@@ -163,7 +163,7 @@ module _ (bytes : List ℕ) (index : List ℕ) (k : Known bytes index) where
     searchable = record {
       facts = (read_file_lem bytes k.read).task.few_facts;
       room_left = fewer_left;
-      room_right = leaves_room right g.right_count ys h.right_leaves_lem h.right_count_lem;
+      room_right = leaves_room right g.right_count ys h.right_leaves_are h.right_count_is;
       orderly_left = in_left (λ y. Orderly bytes index y.set) (orderly xs h.basic_left);
       orderly_right = in_right (λ y. Orderly bytes index y.set) (orderly ys h.basic_right);
       anchored = λ q. ((h.anchored q).0, anchor q);

@@ -65,8 +65,8 @@ unfoldable pub permits_by : ℕ → Flags → ℕ → Bool → Bool
 permits_by rule x n anchored = elim (eqb rule 4) [ true ↦ pair_by x | false ↦ clauses_by x n || states_by x anchored ]
 
 pub record Summary (few : Bool) (rule : ℕ) (left right : List ℕ) (n : Counts) (actions : ℕ) (r : Gathered) : Type 0 where
-  pub left_count_lem : r.left_count ≡ n.left
-  pub right_count_lem : r.right_count ≡ n.right
+  pub left_count_is : r.left_count ≡ n.left
+  pub right_count_is : r.right_count ≡ n.right
   pub action_set : r.actions ≡ actions
   pub listed : r.listed ≡ kind_in left n.left 3 || kind_in right n.right 3
   pub two : r.two ≡ kind_in left n.left 5

@@ -19,6 +19,6 @@ AlikeSets (x ∷ xs) (y ∷ ys) = AlikeSet x y × AlikeSets xs ys
 
 pub record Alike (f g : File) : Type 0 where
   pub task : f.task ≡ g.task
-  pub action_sets_lem : f.action_sets ≡ g.action_sets
-  pub state_sets_lem : AlikeSets f.state_sets g.state_sets
+  pub action_sets_hold : f.action_sets ≡ g.action_sets
+  pub state_sets_hold : AlikeSets f.state_sets g.state_sets
   pub steps : f.steps ≡ g.steps

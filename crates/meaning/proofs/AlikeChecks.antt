@@ -22,11 +22,11 @@ by_sets said h f g a =
     (λ i. record {
       version = f.version;
       task = a.task i;
-      action_sets = a.action_sets_lem i;
+      action_sets = a.action_sets_hold i;
       state_sets = f.state_sets;
       steps = a.steps i;
     })
-    ∙ h f.version g f.state_sets a.state_sets_lem
+    ∙ h f.version g f.state_sets a.state_sets_hold
 
 steps_same : (v : ℕ) (g : File) (xs : List StateSet) → AlikeSets xs g.state_sets → check_steps (varied v g xs g.steps) ≡ check_steps g
 unfolding step_at
@@ -55,7 +55,7 @@ pub alike_rewritten : (to : ℕ → ℕ) (f g : File) → Alike f g → Alike (r
 unfolding rewritten
 alike_rewritten to f g a = record {
   task = a.task;
-  action_sets_lem = a.action_sets_lem;
-  state_sets_lem = a.state_sets_lem;
+  action_sets_hold = a.action_sets_hold;
+  state_sets_hold = a.state_sets_hold;
   steps = ap (map (λ s. with_rule (to s.rule) s)) a.steps;
 }

@@ -209,9 +209,9 @@ module _ (l : Limits) (room : Roomy l) (table : List ℕ) (t : Task) (lawful : L
   fits : FitsCertificate t the_action_sets (the_state_sets ss) the_steps
   fits = record {
     few_action_sets = omega arith;
-    action_sets_lem = (tt, tt);
+    action_sets_hold = (tt, tt);
     few_state_sets = omega arith;
-    state_sets_lem = (
+    state_sets_hold = (
       tt,
       (
         tt,

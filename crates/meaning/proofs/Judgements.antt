@@ -175,6 +175,15 @@ own_passed f n h k l = ((step_at f k).rule, h k (omega arith) l)
 told : (f : File) → Told f (Passed f) (check_file f)
 told f = told_as f f refl (λ k. refl) (λ n _. own_passed f n) (check_file f) (check_told f)
 
+-- the last step of a file that passes is "unsolvable", and it holds
+pub file_safe : (f : File) → Ordered f → Bounded f.task → 0 < length f.steps → check_file f ≡ found tt → Safe f.task
+file_safe f o b p e =
+    let n : ℕ = length f.steps - 1 in
+    let t : Told f (Passed f) (found tt) = subst (Told f (Passed f)) e (told f) in
+    unsolvable f.task b
+    (subst (λ (j : ℕ). HoldsAs f j (step_at f n).left (step_at f n).right) t.1
+    (hold_before f o b (length f.steps) t.0 n (omega arith)))
+
 pub judgements_true : JudgementsTrue
 judgements_true bytes f r e =
     true_before bytes f r (length f.steps)

@@ -128,7 +128,7 @@ module _ (a : List ℕ) (long : 14 ≤ length a) where
           let o : 14 ≤ ss.1 + 2 + 12 * kc = omega arith in
           let w : ss.1 + 2 + 12 * kc + 8 ≡ ss'.1 + 2 + 12 * kc = omega arith in
           bind_same (need_later 3 (rw (t, ← w) (leb_moved (length a) (ss.1 + 2 + 12 * kc) 8)) tt o w) λ _.
-          both (record { task = refl; action_sets_lem = refl; state_sets_lem = all_same ss.0; steps = refl }))))
+          both (record { task = refl; action_sets_hold = refl; state_sets_hold = all_same ss.0; steps = refl }))))
 
 -- ---- what is said of them
 

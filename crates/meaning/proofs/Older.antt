@@ -30,7 +30,7 @@ newer_fits l f h = record { version = inr (inr refl); task = h.task; certificate
 
 newer_alike : (f : File) → Alike (as_version3 f) f
 unfolding as_version3
-newer_alike f = record { task = refl; action_sets_lem = refl; state_sets_lem = all_same f.state_sets; steps = refl }
+newer_alike f = record { task = refl; action_sets_hold = refl; state_sets_hold = all_same f.state_sets; steps = refl }
 
 -- what is said after a check that is the same of files that are alike
 module _ {A R : Type 0} (finish : Result A → R) (check : File → Result A) (checks : (f g : File) → Alike f g → check f ≡ check g) where

@@ -34,11 +34,11 @@ module _ {A : Type 0} (P : ℕ → A → Type 0) (d : A) where
 module _ (bytes : List ℕ) (f : File) (r : Read bytes f) where
   pub action_set_fits : (e : ℕ) → FitsActionSet (length f.task.actions) e (action_set_at f e)
   unfolding action_set_at
-  action_set_fits = all_anywhere (FitsActionSet (length f.task.actions)) all f.action_sets r.action_sets_lem (λ _. tt)
+  action_set_fits = all_anywhere (FitsActionSet (length f.task.actions)) all f.action_sets r.action_sets_hold (λ _. tt)
 
   pub state_set_fits : (e : ℕ) → FitsStateSet f.task.facts (length f.action_sets) e (state_set_at f e)
   unfolding state_set_at
-  state_set_fits = all_anywhere (FitsStateSet f.task.facts (length f.action_sets)) (basic empty) f.state_sets r.state_sets_lem
+  state_set_fits = all_anywhere (FitsStateSet f.task.facts (length f.action_sets)) (basic empty) f.state_sets r.state_sets_hold
       (λ _. tt)
 
 -- ---- references name earlier entries

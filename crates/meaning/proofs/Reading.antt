@@ -135,9 +135,9 @@ pub record Read (bytes : List ℕ) (f : File) : Type 0 where
   pub table : read_task bytes ≡ found (f.task, end)
   pub task : FitsTask f.task
   pub few_action_sets : length f.action_sets ≤ 256
-  pub action_sets_lem : AllFrom (FitsActionSet (length f.task.actions)) 0 f.action_sets
+  pub action_sets_hold : AllFrom (FitsActionSet (length f.task.actions)) 0 f.action_sets
   pub few_state_sets : length f.state_sets ≤ 512
-  pub state_sets_lem : AllFrom (FitsStateSet f.task.facts (length f.action_sets)) 0 f.state_sets
+  pub state_sets_hold : AllFrom (FitsStateSet f.task.facts (length f.action_sets)) 0 f.state_sets
   pub some_steps : 1 ≤ length f.steps
   pub few_steps : length f.steps ≤ full.steps
   pub three : All (λ s. length s.premises ≡ 3) f.steps
@@ -247,9 +247,9 @@ read_with l bytes Q given f e =
         table = w.t!;
         task = task_fits bytes w.t.0 w.t.1 w.t!;
         few_action_sets = subst (λ (l : ℕ). l ≤ 256) (sym a.0) (count_gives bytes 0 256 w.t.1 w.ac w.ac!).1;
-        action_sets_lem = a.1;
+        action_sets_hold = a.1;
         few_state_sets = subst (λ (l : ℕ). l ≤ 512) (sym x.0) (count_gives bytes 0 512 w.es.1 w.sc w.sc!).1;
-        state_sets_lem = subst (λ (m : ℕ). AllFrom (FitsStateSet w.t.0.facts m) 0 w.ss.0) (sym a.0) y.0;
+        state_sets_hold = subst (λ (m : ℕ). AllFrom (FitsStateSet w.t.0.facts m) 0 w.ss.0) (sym a.0) y.0;
         some_steps = subst (λ (l : ℕ). 1 ≤ l) (sym k.0) c.0;
         few_steps = subst (λ (l : ℕ). l ≤ full.steps) (sym k.0) c.1;
         three = k.1;
@@ -274,9 +274,9 @@ reads_within l bytes f h e =
         task = r.0.task;
         certificate = record {
           few_action_sets = r.0.few_action_sets;
-          action_sets_lem = r.0.action_sets_lem;
+          action_sets_hold = r.0.action_sets_hold;
           few_state_sets = r.0.few_state_sets;
-          state_sets_lem = r.0.state_sets_lem;
+          state_sets_hold = r.0.state_sets_hold;
           some_steps = r.0.some_steps;
           few_steps = r.0.few_steps;
           steps = r.2;

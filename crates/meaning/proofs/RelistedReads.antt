@@ -102,7 +102,7 @@ module _ {a b : List ℕ} (r : Relisted a b) where
       same_then (none_in a (rest _) (items_in K (K + 2 + 12 * n) _ 12 (step_in _ _ a) n (K + 2) (omega arith) (omega arith)))
       (items_eq r K (K + 2 + 12 * n) (rest _) 12 (step_eq r _ _ (rest _)) n (K + 2) (omega arith) (omega arith)) λ ks _.
       need_then _ 3 _ tt λ _ _.
-      both (record { task = refl; action_sets_lem = h.0; state_sets_lem = g.0; steps = refl }))))))))
+      both (record { task = refl; action_sets_hold = h.0; state_sets_hold = g.0; steps = refl }))))))))
 
 -- ---- what is said of them
 

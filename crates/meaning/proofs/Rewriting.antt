@@ -76,9 +76,9 @@ module _ (g : ℕ → ℕ) where
           task = h.task;
           certificate = record {
             few_action_sets = c.few_action_sets;
-            action_sets_lem = c.action_sets_lem;
+            action_sets_hold = c.action_sets_hold;
             few_state_sets = c.few_state_sets;
-            state_sets_lem = c.state_sets_lem;
+            state_sets_hold = c.state_sets_hold;
             some_steps = subst (λ (k : ℕ). 1 ≤ k) (sym n) c.some_steps;
             few_steps = subst (λ (k : ℕ). k ≤ full.steps) (sym n) c.few_steps;
             steps = steps_fit l f.steps 0 c.steps;

@@ -118,14 +118,14 @@ certificate_back l b t q es ss ks low fits size t! h a w =
     let w₅ = after_number b q₂ 2 (length ks) _ w₄ (q₂ + 2) refl in
     let k : length (each write_step ks) ≡ 12 * length ks = length_each FitsStep write_step 12 length_step ks 0 h.steps in
     let last : length b ≤ q₂ + 2 + 12 * length ks = (let s = w₅.size in let n = length-append (each write_step ks) [] in omega arith) in
-    let sets = both_of (FitsStateSet t.facts (length es)) (λ _ x. listed_states x ≤ l.states) 0 ss h.state_sets_lem a.states in
+    let sets = both_of (FitsStateSet t.facts (length es)) (λ _ x. listed_states x ≤ l.states) 0 ss h.state_sets_hold a.states in
     bind_in _ (need_in _ 1 0 (and_in (leb 4 (length b)) (leb (length b) full.size) (le→leb 4 (length b) low)
     (le→leb (length b) full.size fits.0)))
     (bind_in _ (need_in _ 1 0 (subst (λ (x : ℕ). T (eqb (number 4 b 0 + 4) x)) size (eqb_refl (number 4 b 0 + 4))))
     (bind_in _ (need_in _ 19 0 (le→leb (length b) l.size fits.1))
     (bind_in _ t!
     (bind_in _ (count_back b 0 256 (omega arith) (length es) (omega arith, h.few_action_sets) q _ w₀)
-    (bind_in _ (action_sets_back b (length t.actions) ft.few_actions es h.few_action_sets h.action_sets_lem (q + 2) _ w₁)
+    (bind_in _ (action_sets_back b (length t.actions) ft.few_actions es h.few_action_sets h.action_sets_hold (q + 2) _ w₁)
     (bind_in _ (count_back b 0 512 (omega arith) (length ss) (omega arith, h.few_state_sets) q₁ _ w₂)
     (bind_in _ (state_sets_back b l.states t.facts (length es) ft.few_facts h.few_action_sets ss h.few_state_sets sets
     (q₁ + 2) _ w₃)

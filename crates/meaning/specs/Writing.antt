@@ -170,9 +170,9 @@ pub record FitsStep (s : Step) : Type 0 where
 -- what follows the task
 pub record FitsCertificate (t : Task) (es : List ActionSet) (ss : List StateSet) (ks : List Step) : Type 0 where
   pub few_action_sets : length es ≤ 256
-  pub action_sets_lem : AllFrom (FitsActionSet (length t.actions)) 0 es
+  pub action_sets_hold : AllFrom (FitsActionSet (length t.actions)) 0 es
   pub few_state_sets : length ss ≤ 512
-  pub state_sets_lem : AllFrom (FitsStateSet t.facts (length es)) 0 ss
+  pub state_sets_hold : AllFrom (FitsStateSet t.facts (length es)) 0 ss
   pub some_steps : 1 ≤ length ks
   pub few_steps : length ks ≤ full.steps
   pub steps : All FitsStep ks

@@ -24,7 +24,7 @@ use Rattle.kinds.specs.Summary.{kind_in, flags_in, to_of, permits_by, Summary}
 use Rattle.parts.specs.Written.{literals_of, anchors_of}
 use Rattle.shapes.specs.Arrays.{Filled, Zeros}
 use Rattle.shapes.proofs.Filled.{kind_asked, filled_cases}
-use Rattle.shapes.proofs.LeafKinds.{outside_leaves, kinds_left, kinds_right, right_count_lem, basic_left, basic_right}
+use Rattle.shapes.proofs.LeafKinds.{outside_leaves, kinds_left, kinds_right, right_count_is, basic_left, basic_right}
 use Rattle.shapes.proofs.KindLaws.{hit, length_kinds, put_length, put_leaves, kind_at_lem, kind_in_lem}
 use Rattle.shapes.proofs.PickLaws.{picked_outside_lem, picked_left_lem, picked_right_lem}
 use Rattle.shapes.proofs.AnchorLaws.{anchored, anchor_old}
@@ -113,7 +113,7 @@ module _ (f : File) (index : List ℕ) (rule a b : ℕ) (lit : literals_of f (si
   right_has = has rights right₀ right n.right on_right low_right
 
   right_number : n.right ≡ count_by f x
-  right_number = put_length index f _ _ _ _ on_right ∙ right_count_lem f h x
+  right_number = put_length index f _ _ _ _ on_right ∙ right_count_is f h x
 
   flags_are : flags_in left n.left right n.right ≡ flags_by f x
   unfolding flags_in
@@ -136,7 +136,7 @@ module _ (f : File) (index : List ℕ) (rule a b : ℕ) (lit : literals_of f (si
   -- ---- the leaves
 
   few_leaves : (r.left_count ≤ 24) × (r.right_count ≤ 16)
-  few_leaves = (omega (arith, dec.left_count_lem, fill.few.1), omega (arith, dec.right_count_lem, fill.few.2))
+  few_leaves = (omega (arith, dec.left_count_is, fill.few.1), omega (arith, dec.right_count_is, fill.few.2))
 
   listed_is : r.listed ≡ ((flags_by f x).l3 || (flags_by f x).r3)
   unfolding flags_in
@@ -148,7 +148,7 @@ module _ (f : File) (index : List ℕ) (rule a b : ℕ) (lit : literals_of f (si
   clauses_few s e =
       let w = s.clauses (sym listed_is ∙ e) in
       let apart = subst (λ (ks : List ℕ). T (member 4 ks) → T (member 5 ks) → ⊥) (sym (kinds_left f h x)) w.1 in
-      (omega (arith, dec.right_count_lem, right_number, w.0), apart)
+      (omega (arith, dec.right_count_is, right_number, w.0), apart)
 
   states_anchor : SortedBy f rule x → r.listed ≡ true
       → (r.anchor < r.left_count) × T (may_anchor (lists_init f) (leaf_in left r.anchor).set)
@@ -156,20 +156,20 @@ module _ (f : File) (index : List ℕ) (rule a b : ℕ) (lit : literals_of f (si
   states_anchor s e =
       let l : r.anchor < to_of rule n = ltb→lt r.anchor (to_of rule n) (subst T (sym found) (s.states (sym listed_is ∙ e))) in
       let w = anchor_old f h x index left₀ left n.left on_left low_left rule n refl own refl r.anchor dec.anchor l in
-      (omega (arith, dec.left_count_lem, w.0), dec.anchor.here l, w.1)
+      (omega (arith, dec.left_count_is, w.0), dec.anchor.here l, w.1)
 
   -- where the kinds are permitted: all that is promised
   pub gathers : Zeros right₀ → (2 ≤ rule → rule ≤ 3 → actions ≡ actions_of_rule f rule a) → SortedBy f rule x
       → Gathers f index rule a b left right r
   unfolding left_of right_of after_of
   gathers zeros acts s = record {
-    left_count_lem = dec.left_count_lem ∙ put_length index f _ _ _ _ on_left;
-    left_leaves_lem = ap (leaves_in left) dec.left_count_lem ∙ put_leaves index f _ _ _ _ on_left;
+    left_count_is = dec.left_count_is ∙ put_length index f _ _ _ _ on_left;
+    left_leaves_are = ap (leaves_in left) dec.left_count_is ∙ put_leaves index f _ _ _ _ on_left;
     few_left = few_leaves.0;
-    right_count_lem = dec.right_count_lem ∙ put_length index f _ _ _ _ on_right;
-    right_leaves_lem = ap (leaves_in right) dec.right_count_lem ∙ put_leaves index f _ _ _ _ on_right;
+    right_count_is = dec.right_count_is ∙ put_length index f _ _ _ _ on_right;
+    right_leaves_are = ap (leaves_in right) dec.right_count_is ∙ put_leaves index f _ _ _ _ on_right;
     few_right = few_leaves.1;
-    no_more = λ j g. on_right.rest j (omega (arith, dec.right_count_lem)) ∙ zeros j;
+    no_more = λ j g. on_right.rest j (omega (arith, dec.right_count_is)) ∙ zeros j;
     listed = dec.listed ∙ ap₂ ◌||◌ (left_has 3) (right_has 3);
     two = dec.two ∙ left_has 5;
     action_set = λ i j. dec.action_set ∙ acts i j;

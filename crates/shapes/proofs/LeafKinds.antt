@@ -83,9 +83,9 @@ module _ (f : File) where
         ∙ ap₂ ◌++◌ (kinds_others x.right) (kinds_complements x.outer)
 
     -- as many right leaves as the shape counts, kind 0 not counted
-    pub right_count_lem : (x : Sides) → length (not_empty f (right_leaves f h x)) ≡ length (keep (λ k. not (eqb k 0)) (moved_right f x))
+    pub right_count_is : (x : Sides) → length (not_empty f (right_leaves f h x)) ≡ length (keep (λ k. not (eqb k 0)) (moved_right f x))
     unfolding kinds_of
-    right_count_lem x = filled_count f (right_leaves f h x) ∙ ap (λ (ks : List ℕ). length (keep (λ k. not (eqb k 0)) ks)) (kinds_right x)
+    right_count_is x = filled_count f (right_leaves f h x) ∙ ap (λ (ks : List ℕ). length (keep (λ k. not (eqb k 0)) ks)) (kinds_right x)
 
   -- ---- literals are of kinds 0 to 5, complements taken off
 

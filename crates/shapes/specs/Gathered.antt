@@ -53,11 +53,11 @@ Acts f (suc (suc (suc (suc k)))) a = λ c. c ≡ no_action
 
 -- of a permitted statement: its left and right leaves
 pub record Gathers (f : File) (index : List ℕ) (rule a b : ℕ) (left right : List ℕ) (r : Gathered) : Type 0 where
-  pub left_count_lem : r.left_count ≡ length (left_of f rule a b)
-  pub left_leaves_lem : leaves_in left r.left_count ≡ map (leaf_of index f) (left_of f rule a b)
+  pub left_count_is : r.left_count ≡ length (left_of f rule a b)
+  pub left_leaves_are : leaves_in left r.left_count ≡ map (leaf_of index f) (left_of f rule a b)
   pub few_left : r.left_count ≤ 24
-  pub right_count_lem : r.right_count ≡ length (right_of f rule a b)
-  pub right_leaves_lem : leaves_in right r.right_count ≡ map (leaf_of index f) (right_of f rule a b)
+  pub right_count_is : r.right_count ≡ length (right_of f rule a b)
+  pub right_leaves_are : leaves_in right r.right_count ≡ map (leaf_of index f) (right_of f rule a b)
   pub few_right : r.right_count ≤ 16
   -- after the right leaves stand zeros, which read as leaves of the empty set
   pub no_more : (j : ℕ) → r.right_count ≤ j → get_or right j 0 ≡ 0

@@ -8,8 +8,8 @@ use Rattle.kinds.proofs.summary.Goals as goal
 pub returns : goal.returns
 returns c =
     record {
-      left_count_lem = refl;
-      right_count_lem = refl;
+      left_count_is = refl;
+      right_count_is = refl;
       action_set = refl;
       listed = flags_listed _ _ _ _ _ c.flags_in-x.ensures;
       two = flags_two _ _ _ _ _ c.flags_in-x.ensures;
