@@ -1,3 +1,5 @@
+-- `actions::first_marks`: after i rounds the numbers below i are marked.
+-- Assumes nothing.
 use mathlib.Core.Path.{◌≡◌, subst}
 use Prim.Native.Nat.{ℕ, ◌≤◌, ◌-◌}
 use native.Mathlib.Omega.{arith}

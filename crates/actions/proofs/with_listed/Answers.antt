@@ -1,3 +1,5 @@
+-- `actions::with_listed`: after i rounds the first i numbers of the list are marked.
+-- Assumes nothing.
 use mathlib.Core.Path.{◌≡◌, subst}
 use Prim.Native.Nat.{ℕ, ◌+◌}
 use native.Mathlib.Omega.{arith}

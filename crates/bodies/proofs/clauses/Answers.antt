@@ -1,3 +1,6 @@
+-- `bodies::clauses` meets its contract.
+-- The loop's invariant: the clauses that are left say what all of them say.
+-- Assumes nothing.
 use Prim.Native.Nat.{◌*◌, ◌/◌}
 use lib.ListN.{length}
 use Rattle.meaning.specs.Layout.{clause}

@@ -1,10 +1,10 @@
+-- `bodies::clauses` meets its contract.
+-- The loop's invariant: the clauses that are left say what all of them say.
+-- Assumes nothing.
 use Prim.Native.Nat.{◌-◌, ◌≤◌}
 use Rattle.bodies.proofs.BodyLaws.{ClausesLeft}
 use Rattle.bodies.proofs.clauses.Given as goal
 
--- `bodies::clauses` meets its contract.
--- The loop's invariant: the clauses that are left say what all of them say.
--- Assumes nothing.
 abbrev pub invariant-loop-i : goal.invariant-loop-i
 invariant-loop-i l = (l.i ≤ l.count) × ClausesLeft l.part l.n l.two l.count l.i
 

@@ -1,3 +1,6 @@
+-- `bodies::numbers` meets its contract.
+-- The loop's invariant: the numbers that are left say what all of them say.
+-- Assumes nothing.
 use Prim.Native.Nat.{◌+◌, ◌*◌, ◌/◌}
 use native.Mathlib.Omega.{arith}
 use lib.ListN.{length}

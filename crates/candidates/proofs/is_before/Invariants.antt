@@ -1,8 +1,8 @@
+-- `candidates::is_before` meets its contract.
+-- Assumes nothing.
 use Prim.Native.Nat.{◌≤◌, ◌-◌}
 use Rattle.candidates.proofs.is_before.Given as goal
 
--- `candidates::is_before` meets its contract.
--- Assumes nothing.
 abbrev pub invariant-loop-j : goal.invariant-loop-j
 invariant-loop-j l = l.j ≤ l.m
 

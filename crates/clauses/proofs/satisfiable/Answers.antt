@@ -1,3 +1,5 @@
+-- `clauses::satisfiable` meets its contract.
+-- Assumes nothing.
 use borrow.Author.Rules.{rules}
 use Rattle.clauses.proofs.SeekLaws.{trying_more, trying_done, trying_none_left, usable_shaped}
 use Rattle.clauses.proofs.satisfiable.Goals as goal

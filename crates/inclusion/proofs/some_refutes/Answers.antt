@@ -1,3 +1,5 @@
+-- `inclusion::some_refutes`: the actions of the set are tried in turn; none of those tried so far makes the statement untrue.
+-- Assumes nothing.
 use mathlib.Core.Path.{◌≡◌, sym, ◌∙◌, subst}
 use mathlib.Core.Logic.{⊎_elim}
 use Prim.Native.Nat.{ℕ, ◌≤◌, ◌<◌, ◌-◌}

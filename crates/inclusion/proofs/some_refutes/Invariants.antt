@@ -1,3 +1,5 @@
+-- `inclusion::some_refutes`: the actions of the set are tried in turn; none of those tried so far makes the statement untrue.
+-- Assumes nothing.
 use mathlib.Core.Path.{◌≡◌, sym, ◌∙◌, subst}
 use mathlib.Core.Logic.{⊎_elim}
 use Prim.Native.Nat.{ℕ, ◌≤◌, ◌<◌, ◌-◌}
@@ -15,8 +17,6 @@ use Rattle.inclusion.proofs.Ready.{action_fits}
 use Rattle.inclusion.proofs.TryLaws.{NoneYet, none_yet, none_tried, none_skipped, some_found, none_found}
 use Rattle.inclusion.proofs.some_refutes.Given as goal
 
--- `inclusion::some_refutes`: the actions of the set are tried in turn; none of those tried so far makes the statement untrue.
--- Assumes nothing.
 abbrev pub invariant-loop-i : goal.invariant-loop-i
 invariant-loop-i l =
     NoneYet (decoded l.file) l.g.actions (CounteredBy l.file l.ends l.left l.right l.g) l.i × (l.i ≤ l.count) ×

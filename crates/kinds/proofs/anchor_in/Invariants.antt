@@ -1,3 +1,5 @@
+-- `kinds::anchor_in` meets its contract: none of the leaves passed so far is an anchor.
+-- Assumes nothing.
 use mathlib.Core.Path.{◌≡◌, sym, ap, ◌∙◌}
 use Prim.Native.Nat.{◌-◌, ◌≤◌}
 use native.Mathlib.Omega.{arith}
@@ -9,8 +11,6 @@ use Rattle.kinds.specs.Summary.{may_anchor}
 use Rattle.kinds.proofs.SummaryLaws.{NoAnchor, anchor_next}
 use Rattle.kinds.proofs.anchor_in.Given as goal
 
--- `kinds::anchor_in` meets its contract: none of the leaves passed so far is an anchor.
--- Assumes nothing.
 abbrev pub invariant-loop-j : goal.invariant-loop-j
 invariant-loop-j l = (l.from ≤ l.j) × (l.j ≤ l.to) × NoAnchor l.few l.left l.from l.j
 

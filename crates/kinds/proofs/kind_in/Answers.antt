@@ -1,3 +1,5 @@
+-- `kinds::kind_in` meets its contract: what is found among the leaves passed so far.
+-- Assumes nothing.
 use mathlib.Core.Path.{◌≡◌, ap, ◌∙◌}
 use Prim.Native.Nat.{◌-◌, ◌≤◌}
 use native.Mathlib.Omega.{arith}

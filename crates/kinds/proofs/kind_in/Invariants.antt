@@ -1,3 +1,5 @@
+-- `kinds::kind_in` meets its contract: what is found among the leaves passed so far.
+-- Assumes nothing.
 use mathlib.Core.Path.{◌≡◌, ap, ◌∙◌}
 use Prim.Native.Nat.{◌-◌, ◌≤◌}
 use native.Mathlib.Omega.{arith}
@@ -8,8 +10,6 @@ use Rattle.kinds.specs.Summary.{kind_in}
 use Rattle.kinds.proofs.SummaryLaws.{kind_none, kind_next, kind_end}
 use Rattle.kinds.proofs.kind_in.Given as goal
 
--- `kinds::kind_in` meets its contract: what is found among the leaves passed so far.
--- Assumes nothing.
 abbrev pub invariant-loop-j : goal.invariant-loop-j
 invariant-loop-j l = (l.j ≤ l.n) × (l.found ≡ kind_in l.xs l.j l.k)
 

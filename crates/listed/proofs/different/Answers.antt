@@ -1,3 +1,5 @@
+-- `listed::different` meets its contract. The invariant: the row at `hi` is the last one.
+-- Assumes nothing.
 use mathlib.Core.Path.{◌≡◌, ap, sym, ◌∙◌}
 use Prim.Native.Nat.{◌+◌, ◌-◌}
 use native.Mathlib.Omega.{arith}

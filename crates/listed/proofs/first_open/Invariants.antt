@@ -1,3 +1,6 @@
+-- `listed::first_open` meets its contract. The invariant: each state that was passed is closed, and `last`, where one was looked for, is
+-- one of the listed states that the action may lead to.
+-- Assumes nothing.
 use Prim.Native.Nat.{ℕ, ◌-◌, ◌≤◌, ◌<◌}
 use mathlib.Core.Path.{◌≡◌}
 use mathlib.Core.Logic.{◌⊎◌}
@@ -8,9 +11,6 @@ use Rattle.leaves.specs.Holds.{states_at}
 use Rattle.listed.specs.Search.{Closed}
 use Rattle.listed.proofs.first_open.Given as goal
 
--- `listed::first_open` meets its contract. The invariant: each state that was passed is closed, and `last`, where one was looked for, is
--- one of the listed states that the action may lead to.
--- Assumes nothing.
 abbrev pub invariant-loop-i : goal.invariant-loop-i
 invariant-loop-i l =
     (l.i ≤ l.to) × (l.from ≤ l.i) × ((k : ℕ) → l.from ≤ k → k < l.i → Closed l.file l.into l.a (state_in l.file l.index l.x k))

@@ -1,3 +1,5 @@
+-- `listed::none_holds` meets its contract. The invariant: none of the first `j` leaves holds.
+-- Assumes nothing.
 use mathlib.Core.Path.{ap, ◌∙◌}
 use mathlib.Core.Bool.{not}
 use borrow.Author.Rules.{rules}

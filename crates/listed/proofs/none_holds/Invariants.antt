@@ -1,3 +1,5 @@
+-- `listed::none_holds` meets its contract. The invariant: none of the first `j` leaves holds.
+-- Assumes nothing.
 use Prim.Native.Nat.{◌-◌, ◌≤◌}
 use mathlib.Core.Path.{◌≡◌}
 use mathlib.Core.Bool.{true, not}
@@ -6,8 +8,6 @@ use Rattle.listed.specs.Search.{holds_one}
 use Rattle.leaves.specs.Leaves.{leaf_in}
 use Rattle.listed.proofs.none_holds.Given as goal
 
--- `listed::none_holds` meets its contract. The invariant: none of the first `j` leaves holds.
--- Assumes nothing.
 abbrev pub invariant-loop-j : goal.invariant-loop-j
 invariant-loop-j l = (l.j ≤ l.r) × (all_below l.j (λ k. not (holds_one l.file l.ends l.s l.t (leaf_in l.leaves k))) ≡ true)
 

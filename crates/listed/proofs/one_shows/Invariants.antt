@@ -1,3 +1,5 @@
+-- `listed::one_shows` meets its contract. The invariant: none of the first `i` states by size shows it. Those that differ are enough.
+-- Assumes nothing.
 -- whether state k shows it
 use Prim.Native.Nat.{◌-◌, ◌≤◌}
 use mathlib.Core.Path.{◌≡◌}
@@ -7,8 +9,6 @@ use Rattle.certificate.specs.Rows.{state_in}
 use Rattle.listed.specs.Search.{shows_in}
 use Rattle.listed.proofs.one_shows.Given as goal
 
--- `listed::one_shows` meets its contract. The invariant: none of the first `i` states by size shows it. Those that differ are enough.
--- Assumes nothing.
 abbrev pub invariant-loop-i : goal.invariant-loop-i
 invariant-loop-i l =
     (l.i ≤ l.count) × (some_below l.i (λ k. shows_in l.file l.ends l.a l.left l.m l.right l.r l.anchor (state_in l.file l.index l.x k)) ≡ false)

@@ -1,10 +1,10 @@
+-- `membership::search` meets its contract. The invariant: where the state is among them, it is one of those from `lo` on and before
+-- `hi`, and so is the next one looked at.
+-- Assumes nothing.
 use Prim.Native.Nat.{◌-◌, ◌≤◌, ◌<◌, ◌^◌}
 use Rattle.membership.proofs.SearchLaws.{Bracket}
 use Rattle.membership.proofs.search.Given as goal
 
--- `membership::search` meets its contract. The invariant: where the state is among them, it is one of those from `lo` on and before
--- `hi`, and so is the next one looked at.
--- Assumes nothing.
 abbrev pub invariant-loop-lo : goal.invariant-loop-lo
 invariant-loop-lo l =
     Bracket l.file l.index l.x l.s l.lo l.hi × (l.lo < l.hi → (l.lo ≤ l.mid) × (l.mid < l.hi)) × (1 ≤ l.step) × (l.step < 2 ^ 33)

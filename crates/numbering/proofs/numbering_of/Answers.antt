@@ -1,3 +1,5 @@
+-- `numbering_of` meets its contract. The loop's invariant: the table has the rules of the first k bytes, none of which is a fault.
+-- Assumes nothing.
 use native.Mathlib.Omega.{arith}
 use borrow.Author.Rules.{rules}
 use Rattle.numbering.proofs.ListLaws.{tabled_none, more, other_length, told_refused, told_fault, told_lawful}

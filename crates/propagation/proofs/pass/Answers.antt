@@ -1,3 +1,5 @@
+-- `propagation::pass` meets its contract.
+-- Assumes nothing.
 use Rattle.std.proofs.Common.{rules}
 use Rattle.leaves.proofs.ListLaws.{each_at}
 use Rattle.propagation.specs.Clauses.{LeafOf, Clausal}

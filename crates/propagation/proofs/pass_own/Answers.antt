@@ -1,3 +1,5 @@
+-- `propagation::pass_own` meets its contract.
+-- Assumes nothing.
 use Rattle.std.proofs.Common.{true, rules}
 use Rattle.propagation.specs.Clauses.{OfOwn}
 use Rattle.propagation.specs.Propagation.{Passed}

@@ -1,11 +1,11 @@
+-- `propagation::pass_own` meets its contract.
+-- Assumes nothing.
 use mathlib.Core.Bool.{true}
 use Prim.Native.Nat.{◌≤◌, ◌-◌}
 use Rattle.propagation.specs.Clauses.{Below, OfOwn}
 use Rattle.propagation.specs.Propagation.{Passed}
 use Rattle.propagation.proofs.pass_own.Given as goal
 
--- `propagation::pass_own` meets its contract.
--- Assumes nothing.
 abbrev pub invariant-loop-i : goal.invariant-loop-i
 invariant-loop-i l = (l.i ≤ l.many) × Passed true (Below (OfOwn l.ends l.set l.by) l.i) l.initial.x l.x
 

@@ -1,3 +1,5 @@
+-- `propagation::pass_touched` meets its contract.
+-- Assumes nothing.
 use Rattle.std.proofs.Common.{rules}
 use Rattle.propagation.proofs.PassLaws.{passed_any, passed_more, passed_early}
 use Rattle.propagation.proofs.RestLaws.{passed_missed}

@@ -1,3 +1,5 @@
+-- `propagation::pass_words` meets its contract.
+-- Assumes nothing.
 use Rattle.std.proofs.Common.{true, rules}
 use Rattle.propagation.proofs.PassLaws.{passed_more, passed_early}
 use Rattle.propagation.specs.Clauses.{OfWords}

@@ -1,11 +1,11 @@
+-- `propagation::pass_words` meets its contract.
+-- Assumes nothing.
 use mathlib.Core.Bool.{true}
 use Rattle.propagation.specs.Clauses.{OfWords, Below}
 use Rattle.propagation.specs.Propagation.{Passed}
 use Prim.Native.Nat.{◌≤◌, ◌-◌}
 use Rattle.propagation.proofs.pass_words.Given as goal
 
--- `propagation::pass_words` meets its contract.
--- Assumes nothing.
 abbrev pub invariant-loop-i : goal.invariant-loop-i
 invariant-loop-i l = (l.i ≤ l.count) × Passed true (Below (OfWords l.file l.at l.by) l.i) l.initial.x l.x
 

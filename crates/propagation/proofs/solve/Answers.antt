@@ -1,3 +1,5 @@
+-- `propagation::solve` meets its contract.
+-- Assumes nothing.
 use Rattle.propagation.proofs.PassLaws.{solved_fixed, unlike_less}
 use Rattle.task.proofs.Tests.{holds}
 use native.Mathlib.Omega.{arith}

@@ -1,3 +1,5 @@
+-- `run` meets its contract. The loop's invariant: some rounds have come to step `from`.
+-- Assumes nothing.
 use mathlib.Core.Path.{sym, ◌∙◌}
 use Prim.Native.Nat.{◌-◌}
 use native.Mathlib.Omega.{arith}

@@ -1,3 +1,5 @@
+-- `run` meets its contract. The loop's invariant: some rounds have come to step `from`.
+-- Assumes nothing.
 use mathlib.Core.Path.{sym, ◌∙◌}
 use Prim.Native.Nat.{◌-◌}
 use native.Mathlib.Omega.{arith}
@@ -8,8 +10,6 @@ use Rattle.meaning.proofs.Rounds.{goes_further}
 use Rattle.rounds.proofs.RunLaws.{Said, said_first, said_next, said_reply, said_judged}
 use Rattle.rounds.proofs.run.Given as goal
 
--- `run` meets its contract. The loop's invariant: some rounds have come to step `from`.
--- Assumes nothing.
 abbrev pub invariant-loop-step : goal.invariant-loop-step
 invariant-loop-step l = Said l.file l.count (GoOn l.from)
 

@@ -1,3 +1,6 @@
+-- `check_steps` meets its contract. The loop's invariant: in the file rewritten by what the table says, the steps that are left say what
+-- all of them say, and the rule of the step that comes is known.
+-- Assumes nothing.
 use Prim.Native.Nat.{ℕ, ◌+◌, ◌-◌, ◌≤◌, ◌<◌}
 use native.Mathlib.Omega.{arith}
 use mathlib.Core.Path.{◌≡◌}

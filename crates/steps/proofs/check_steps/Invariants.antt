@@ -1,3 +1,6 @@
+-- `check_steps` meets its contract. The loop's invariant: in the file rewritten by what the table says, the steps that are left say what
+-- all of them say, and the rule of the step that comes is known.
+-- Assumes nothing.
 use Prim.Native.Nat.{ℕ, ◌+◌, ◌-◌, ◌≤◌, ◌<◌}
 use native.Mathlib.Omega.{arith}
 use mathlib.Core.Path.{◌≡◌}
@@ -11,9 +14,6 @@ use Rattle.numbering.specs.Table.{Stands}
 use Rattle.steps.proofs.StepsLaws.{Passing, passing_start, refused_as, passed_as, steps_passed}
 use Rattle.steps.proofs.check_steps.Given as goal
 
--- `check_steps` meets its contract. The loop's invariant: in the file rewritten by what the table says, the steps that are left say what
--- all of them say, and the rule of the step that comes is known.
--- Assumes nothing.
 abbrev pub invariant-loop-k : goal.invariant-loop-k
 invariant-loop-k l =
     ((l.end ≡ l.from + l.count) × (l.end ≤ l.at.steps) × (l.end < 65536) × (l.k ≤ l.end))

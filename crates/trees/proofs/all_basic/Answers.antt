@@ -1,3 +1,5 @@
+-- `trees::all_basic` meets its contract: the entries passed so far all are.
+-- Assumes nothing.
 use mathlib.Core.Path.{◌≡◌, refl}
 use Prim.Native.Nat.{◌-◌, ◌≤◌}
 use native.Mathlib.Omega.{arith}

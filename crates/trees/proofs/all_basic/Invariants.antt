@@ -1,3 +1,5 @@
+-- `trees::all_basic` meets its contract: the entries passed so far all are.
+-- Assumes nothing.
 use mathlib.Core.Path.{◌≡◌, refl}
 use Prim.Native.Nat.{◌-◌, ◌≤◌}
 use native.Mathlib.Omega.{arith}
@@ -9,8 +11,6 @@ use Rattle.trees.specs.Trees.{basic_or, list_of}
 use Rattle.trees.proofs.TreeLaws.{every_end, every_next}
 use Rattle.trees.proofs.all_basic.Given as goal
 
--- `trees::all_basic` meets its contract: the entries passed so far all are.
--- Assumes nothing.
 abbrev pub invariant-loop-i : goal.invariant-loop-i
 invariant-loop-i l =
     (l.i ≤ l.count) × (l.count ≤ 9) × (length l.items ≡ 9) × (l.all ≡ every (basic_or (decoded l.file) l.turned) (take l.i l.items))

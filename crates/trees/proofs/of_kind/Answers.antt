@@ -1,3 +1,5 @@
+-- `trees::of_kind` meets its contract: of the entries passed so far those that are wanted are kept.
+-- Assumes nothing.
 use mathlib.Core.Path.{◌≡◌}
 use Prim.Native.Nat.{◌-◌, ◌≤◌}
 use native.Mathlib.Omega.{arith}

@@ -1,3 +1,5 @@
+-- `trees::tree`: what was found and what waits are all the leaves. Each turn finds one, or has one more wait.
+-- Assumes nothing.
 use mathlib.Core.Path.{◌≡◌, refl}
 use Prim.Native.Nat.{◌+◌, ◌*◌, ◌-◌}
 use native.Mathlib.Omega.{arith}

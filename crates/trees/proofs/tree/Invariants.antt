@@ -1,3 +1,5 @@
+-- `trees::tree`: what was found and what waits are all the leaves. Each turn finds one, or has one more wait.
+-- Assumes nothing.
 use mathlib.Core.Path.{◌≡◌, refl}
 use Prim.Native.Nat.{◌+◌, ◌*◌, ◌-◌}
 use native.Mathlib.Omega.{arith}
@@ -8,8 +10,6 @@ use Rattle.nodes.proofs.NodeLaws.{node_first, node_second, node_is, node_other}
 use Rattle.trees.proofs.TreeLaws.{rest, rest_sound, Tour, tour_start, tour_many, tour_end, tour_leaf, tour_tree}
 use Rattle.trees.proofs.tree.Given as goal
 
--- `trees::tree`: what was found and what waits are all the leaves. Each turn finds one, or has one more wait.
--- Assumes nothing.
 abbrev pub invariant-loop-waiting : goal.invariant-loop-waiting
 invariant-loop-waiting l = Tour (decoded l.file) l.k l.e l.out l.waiting
 

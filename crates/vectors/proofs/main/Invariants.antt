@@ -1,8 +1,8 @@
+-- `vectors::main` meets its contract.
+-- Assumes nothing.
 use borrow.Author.Rules.{rules}
 use Rattle.vectors.proofs.main.Given as goal
 
--- `vectors::main` meets its contract.
--- Assumes nothing.
 abbrev pub invariant-loop-left : goal.invariant-loop-left
 invariant-loop-left l = Unit {0}
 

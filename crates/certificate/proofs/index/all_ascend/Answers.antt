@@ -1,3 +1,5 @@
+-- `index::all_ascend` meets its contract. The invariant: the states of the first `e` sets ascend.
+-- Assumes nothing.
 use mathlib.Core.Path.{subst, sym}
 use Prim.Native.Nat.{◌+◌, ◌*◌, ◌≤◌}
 use lib.ListN.{length}

@@ -1,3 +1,7 @@
+-- `index::index_entries` meets its contract. The loop's invariant: `at` is the place of entry k, and the table has the places of the k
+-- entries before it.
+-- The measure is the number of entries left.
+-- Assumes nothing.
 use mathlib.Core.Path.{refl, ap, ◌∙◌}
 use native.Mathlib.Omega.{arith}
 use Rattle.certificate.specs.Views.{entry_place}

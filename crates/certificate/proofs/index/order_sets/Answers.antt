@@ -1,3 +1,5 @@
+-- `index::order_sets` meets its contract. The invariant: the rows of the first `e` sets are there.
+-- Assumes nothing.
 use mathlib.Core.Path.{ap, subst, sym, ◌∙◌}
 use Prim.Native.Nat.{ℕ}
 use borrow.Author.Rules.{rules}

@@ -1,3 +1,5 @@
+-- `arrays::put` meets its contract: the leaves of the entries passed so far stand in the array.
+-- Assumes nothing.
 use mathlib.Core.Path.{◌≡◌}
 use Prim.Native.Nat.{◌-◌, ◌≤◌}
 use native.Mathlib.Omega.{arith}

@@ -1,3 +1,5 @@
+-- `arrays::put` meets its contract: the leaves of the entries passed so far stand in the array.
+-- Assumes nothing.
 use mathlib.Core.Path.{◌≡◌}
 use Prim.Native.Nat.{◌-◌, ◌≤◌}
 use native.Mathlib.Omega.{arith}
@@ -10,8 +12,6 @@ use Rattle.shapes.specs.Arrays.{picked, Put}
 use Rattle.shapes.proofs.ArrayLaws.{put_none, put_next, put_room, put_end}
 use Rattle.shapes.proofs.arrays.put.Given as goal
 
--- `arrays::put` meets its contract: the leaves of the entries passed so far stand in the array.
--- Assumes nothing.
 abbrev pub invariant-loop-i : goal.invariant-loop-i
 invariant-loop-i l =
     (l.i ≤ l.count) × (l.count ≤ 9) × (length l.items ≡ 9)
