@@ -2,29 +2,31 @@
 // places and in the written order.
 #![tactic(auto)]
 
-ghost use Rattle.std.specs.Prelude.{◌≡◌, true, ◌+◌, ◌/◌, ◌<◌, ◌≤◌, length};
+ghost use Rattle.std.specs.Prelude.{◌≡◌, ℕ, true, ◌+◌, ◌*◌, ◌/◌, ◌^◌, ◌<◌, ◌≤◌, length};
+ghost use Rattle.std.proofs.Props.{props};
 ghost use Rattle.meaning.specs.Layout.{items, ascending, mask, reference, clause, up_to};
 ghost use Rattle.file_numbers.specs.ClauseRule.{clause_rule};
-ghost use Rattle.bodies.specs.Faults.{fault_from, form_fits, form_allows, form_body};
+ghost use Rattle.bodies.specs.Faults.{Answer, each, fault_from, form_fits, form_allows, form_body};
 
 use file_numbers::{u16_at, u64_at};
+use meaning::Fault;
 use task::all_facts;
 
-// What a reader says: no fault, or document 01's number and place.
+// A body: a part of the file, and the place at which it starts.
 #[derive(Clone, Copy)]
-pub enum Fault {
-    None,
-    At { number: u8, place: u32 },
+pub struct Part<'a> {
+    pub bytes: &'a [u8],
+    pub start: u32,
+    ghost short: { start + length bytes.now ≤ 65536 } by { Prim.hlevel props },
 }
 
 // What an entry's body holds, by its kind. Of states, how many a check's limits allow.
 #[derive(Clone, Copy)]
 pub enum Form {
-    Unknown,
     Bare,
     Numbers(u16),
-    States(u16),
-    Clauses(bool),
+    States { facts: u8, most: u16 },
+    Clauses { facts: u8, two: bool },
     One(u16),
     Two(u16, u16),
 }
@@ -40,106 +42,105 @@ fn passes(two: bool, positive: u64, negative: u64) -> bool
     }
 }
 
-// ---- items: a body is a part of the file, which starts at the place `start`
+// ---- items
 
-// Numbers below a bound, which ascend.
-fn numbers(part: &[u8], bound: u16, start: u32) -> Fault
-    requires { start + length part.now ≤ 65536 }
-    ensures { result ≡ fault_from start (ascending (reference part.now bound) 2 0 0 (length part.now / 2)) }
+// A mask or state over so many facts.
+pub fn mask(part: &Part, at: usize, facts: u8) -> Result<(), Fault>
+    requires { at + 8 ≤ length part.now.bytes.now }
+    ensures { result ≡ fault_from part.now.start (mask part.now.bytes.now facts at) }
 {
-    let count = part.len() / 2;
-    let mut i: usize = 0;
-    let mut low: u32 = 0;
-    while i < count {
-        let at = 2 * i;
-        let place = start + at as u32;
-        let x = u16_at(part, at);
-        if bound <= x {
-            return Fault::At { number: 6, place };
-        }
-        if (x as u32) < low {
-            return Fault::At { number: 7, place };
-        }
-        low = x as u32 + 1;
-        i += 1;
+    if all_facts(facts) < u64_at(part.bytes, at) {
+        return Err(Fault {
+            number: 5,
+            place: part.start + at as u32,
+        });
     }
-    Fault::None
+    Ok(())
 }
 
-// States over n facts.
-fn states(part: &[u8], n: u8, start: u32) -> Fault
-    requires { start + length part.now ≤ 65536 }
-    ensures { result ≡ fault_from start (items (mask part.now n) 8 0 (length part.now / 8)) }
+// A clause over so many facts, under a rule.
+fn clause(part: &Part, at: usize, facts: u8, two: bool) -> Result<(), Fault>
+    requires { at + 16 ≤ length part.now.bytes.now }
+    ensures { result ≡ fault_from part.now.start (clause part.now.bytes.now facts (clause_rule two) at) }
 {
-    let top = all_facts(n);
-    let count = part.len() / 8;
-    let mut i: usize = 0;
-    while i < count {
-        let at = 8 * i;
-        let place = start + at as u32;
-        if top < u64_at(part, at) {
-            return Fault::At { number: 5, place };
-        }
-        i += 1;
+    mask(part, at, facts)?;
+    mask(part, at + 8, facts)?;
+    if !passes(two, u64_at(part.bytes, at), u64_at(part.bytes, at + 8)) {
+        return Err(Fault {
+            number: 7,
+            place: part.start + at as u32,
+        });
     }
-    Fault::None
-}
-
-// Clauses over n facts, under a rule.
-fn clauses(part: &[u8], n: u8, two: bool, start: u32) -> Fault
-    requires { start + length part.now ≤ 65536 }
-    ensures { result ≡ fault_from start (items (clause part.now n (clause_rule two)) 16 0 (length part.now / 16)) }
-{
-    let top = all_facts(n);
-    let count = part.len() / 16;
-    let mut i: usize = 0;
-    while i < count {
-        let at = 16 * i;
-        let place = start + at as u32;
-        let positive = u64_at(part, at);
-        if top < positive {
-            return Fault::At { number: 5, place };
-        }
-        let negative = u64_at(part, at + 8);
-        if top < negative {
-            return Fault::At {
-                number: 5,
-                place: place + 8,
-            };
-        }
-        if !passes(two, positive, negative) {
-            return Fault::At { number: 7, place };
-        }
-        i += 1;
-    }
-    Fault::None
+    Ok(())
 }
 
 // A number below a bound.
-fn reference(part: &[u8], at: usize, bound: u16, start: u32) -> Fault
-    requires { (start + length part.now ≤ 65536) × (at + 2 ≤ length part.now) }
-    ensures { result ≡ fault_from start (reference part.now bound at) }
+fn reference(part: &Part, at: usize, bound: u16) -> Result<(), Fault>
+    requires { at + 2 ≤ length part.now.bytes.now }
+    ensures { result ≡ fault_from part.now.start (reference part.now.bytes.now bound at) }
 {
-    if u16_at(part, at) < bound {
-        Fault::None
+    if u16_at(part.bytes, at) < bound {
+        Ok(())
     } else {
-        Fault::At {
+        Err(Fault {
             number: 6,
-            place: start + at as u32,
-        }
+            place: part.start + at as u32,
+        })
     }
 }
 
 // Two of them.
-fn two_references(part: &[u8], bound: u16, other: u16, start: u32) -> Fault
-    requires { (start + length part.now ≤ 65536) × (4 ≤ length part.now) }
-    ensures { result ≡ fault_from start (form_body part.now 0 (Form.Two bound other) 0 4) }
+fn two_references(part: &Part, bound: u16, other: u16) -> Result<(), Fault>
+    requires { 4 ≤ length part.now.bytes.now }
+    ensures { result ≡ fault_from part.now.start (form_body part.now.bytes.now (Form.Two bound other) 0 4) }
 {
-    let v = reference(part, 0, bound, start);
-    match v {
-        Fault::None => reference(part, 2, other, start),
-        Fault::At { number, place } => Fault::At { number, place },
+    reference(part, 0, bound)?;
+    reference(part, 2, other)
+}
+
+// Numbers below a bound, which ascend.
+fn numbers(part: &Part, bound: u16) -> Result<(), Fault>
+    ensures { result ≡ fault_from part.now.start (ascending (reference part.now.bytes.now bound) 2 0 0 (length part.now.bytes.now / 2)) }
+{
+    let mut low: u32 = 0;
+    for i in 0..part.bytes.len() / 2 {
+        reference(part, 2 * i, bound)?;
+        let x = u16_at(part.bytes, 2 * i) as u32;
+        if x < low {
+            return Err(Fault {
+                number: 7,
+                place: part.start + 2 * i as u32,
+            });
+        }
+        low = x + 1;
     }
+    Ok(())
+}
+
+// So many items of so many bytes each, up to the first fault: `item` says what the item at a place says.
+fn each<F: Fn(usize) -> Result<(), Fault>>(count: usize, size: usize, item: F) -> Result<(), Fault>
+    requires room { size * count < 2 ^ 64 }
+    requires callable { (i : ℕ) → i < count → F.pre item (size * i) }
+    ensures { (says : ℕ → Answer) → ((i : ℕ) (r : Answer) → i < count → F.post item (size * i) r → r ≡ says (size * i)) → result ≡ each says size 0 count }
+{
+    for i in 0..count {
+        item(size * i)?;
+    }
+    Ok(())
+}
+
+// States over so many facts.
+fn states(part: &Part, facts: u8) -> Result<(), Fault>
+    ensures { result ≡ fault_from part.now.start (items (mask part.now.bytes.now facts) 8 0 (length part.now.bytes.now / 8)) }
+{
+    each(part.bytes.len() / 8, 8, |at| mask(part, at, facts))
+}
+
+// Clauses over so many facts, under a rule.
+fn clauses(part: &Part, facts: u8, two: bool) -> Result<(), Fault>
+    ensures { result ≡ fault_from part.now.start (items (clause part.now.bytes.now facts (clause_rule two)) 16 0 (length part.now.bytes.now / 16)) }
+{
+    each(part.bytes.len() / 16, 16, |at| clause(part, at, facts, two))
 }
 
 // ---- bodies
@@ -157,11 +158,10 @@ pub fn fits(form: Form, len: usize) -> bool
     ensures { result ≡ form_fits form len }
 {
     match form {
-        Form::Unknown => false,
         Form::Bare => len == 0,
         Form::Numbers(_) => up_to(2, 256, len),
-        Form::States(_) => up_to(8, 4096, len),
-        Form::Clauses(_) => up_to(16, 256, len),
+        Form::States { .. } => up_to(8, 4096, len),
+        Form::Clauses { .. } => up_to(16, 256, len),
         Form::One(_) => len == 2,
         Form::Two(_, _) => len == 4,
     }
@@ -172,28 +172,22 @@ pub fn allows(form: Form, len: usize) -> bool
     ensures { result ≡ form_allows form len }
 {
     match form {
-        Form::Unknown => true,
-        Form::Bare => true,
-        Form::Numbers(_) => true,
-        Form::States(most) => up_to(8, most as usize, len),
-        Form::Clauses(_) => true,
-        Form::One(_) => true,
-        Form::Two(_, _) => true,
+        Form::States { most, .. } => up_to(8, most as usize, len),
+        _ => true,
     }
 }
 
 // What a body of a form says.
-pub fn body(form: Form, n: u8, part: &[u8], start: u32) -> Fault
-    requires { (start + length part.now ≤ 65536) × (form_fits form (length part.now) ≡ true) }
-    ensures { result ≡ fault_from start (form_body part.now n form 0 (length part.now)) }
+pub fn body(form: Form, part: &Part) -> Result<(), Fault>
+    requires { form_fits form (length part.now.bytes.now) ≡ true }
+    ensures { result ≡ fault_from part.now.start (form_body part.now.bytes.now form 0 (length part.now.bytes.now)) }
 {
     match form {
-        Form::Unknown => Fault::None,
-        Form::Bare => Fault::None,
-        Form::Numbers(bound) => numbers(part, bound, start),
-        Form::States(_) => states(part, n, start),
-        Form::Clauses(two) => clauses(part, n, two, start),
-        Form::One(bound) => reference(part, 0, bound, start),
-        Form::Two(bound, other) => two_references(part, bound, other, start),
+        Form::Bare => Ok(()),
+        Form::Numbers(bound) => numbers(part, bound),
+        Form::States { facts, .. } => states(part, facts),
+        Form::Clauses { facts, two } => clauses(part, facts, two),
+        Form::One(bound) => reference(part, 0, bound),
+        Form::Two(bound, other) => two_references(part, bound, other),
     }
 }

@@ -11,7 +11,7 @@ use lib.Seq.{drop-drop, drop-append-le, take-append-le, length-take-le}
 use lib.Dec.{leb, ltb}
 use borrow.Author.Tests.{eqb-true}
 use Rattle.bodies.specs.declared.Form.{Form}
-use Rattle.bodies.specs.declared.Form.TheVariants.{Unknown, Bare, Numbers, States, Clauses, One, Two}
+use Rattle.bodies.specs.declared.Form.TheVariants.{Bare, Numbers, States, Clauses, One, Two}
 use Rattle.meaning.specs.Result.{Result, refuse, found, ◌>>=◌, need}
 use Rattle.meaning.specs.Bytes.{big_endian, number}
 use Rattle.meaning.specs.Layout.{items, ascending, field, mask, reference, clause}
@@ -116,32 +116,31 @@ module _ (bytes : List ℕ) (d len : ℕ) (h : d + len ≤ length bytes) where
       (near_ascending read read' size near k (suc x) (q + size) (omega arith)
       ∙ ap (λ (p : ℕ). ascending read' size (suc x) p k) e) (λ _. refl)))
 
-  near_body : (n : ℕ) (f : Form) → form_fits f len ≡ true → moved d (form_body part n f 0 len) ≡ form_body bytes n f (d + 0) len
-  near_body n Unknown t = refl
-  near_body n Bare t = refl
-  near_body n (Numbers m) t =
+  near_body : (f : Form) → form_fits f len ≡ true → moved d (form_body part f 0 len) ≡ form_body bytes f (d + 0) len
+  near_body Bare t = refl
+  near_body (Numbers m) t =
       moved_bind d (ascending (reference part m) 2 0 0 (len / 2)) _ _
       (near_ascending (reference part m) (reference bytes m) 2 (near_reference m) (len / 2) 0 0 (omega arith)) (λ _. refl)
-  near_body n (States most) t =
+  near_body (States n most) t =
       moved_bind d (items (mask part n) 8 0 (len / 8)) _ _
       (near_items (mask part n) (mask bytes n) 8 (near_mask n) (len / 8) 0 (omega arith)) (λ _. refl)
-  near_body n (Clauses two) t =
+  near_body (Clauses n two) t =
       moved_bind d (items (clause part n (clause_rule two)) 16 0 (len / 16)) _ _
       (near_items (clause part n (clause_rule two)) (clause bytes n (clause_rule two)) 16 (near_clause n (clause_rule two)) (len / 16) 0
       (omega arith)) (λ _. refl)
-  near_body n (One a) t =
+  near_body (One a) t =
       let l = eqb-true len 2 t in moved_bind d (reference part a 0) _ _ (near_reference a 0 (omega arith)) (λ _. refl)
-  near_body n (Two a b) t =
+  near_body (Two a b) t =
       let l = eqb-true len 4 t in
       let e : d + 2 ≡ d + 0 + 2 = omega arith in
       moved_bind d (reference part a 0) _ _ (near_reference a 0 (omega arith)) (λ _.
       moved_bind d (reference part b 2) _ _ (near_reference b 2 (omega arith) ∙ ap (reference bytes b) e) (λ _. refl))
 
   -- a body that fits its form says what the file says there
-  pub part_says : (n : ℕ) (f : Form) → form_fits f len ≡ true
-      → fault_from d (form_body part n f 0 (length part)) ≡ fault (form_body bytes n f d len)
-  part_says n f t =
+  pub part_says : (f : Form) → form_fits f len ≡ true
+      → fault_from d (form_body part f 0 (length part)) ≡ fault (form_body bytes f d len)
+  part_says f t =
       let e : d + 0 ≡ d = omega arith in
-      ap (λ (l : ℕ). fault_from d (form_body part n f 0 l)) part_length
-      ∙ moved_told d (form_body part n f 0 len) _ (near_body n f t)
-      ∙ ap (λ (p : ℕ). fault (form_body bytes n f p len)) e
+      ap (λ (l : ℕ). fault_from d (form_body part f 0 l)) part_length
+      ∙ moved_told d (form_body part f 0 len) _ (near_body f t)
+      ∙ ap (λ (p : ℕ). fault (form_body bytes f p len)) e

@@ -1,7 +1,8 @@
+pub mod ToldLaws
+pub mod LimitLaws
 pub mod RowLaws
-pub mod LayoutLaws
 pub mod OutlineLaws
-pub mod RestLaws
 pub mod TaskLaws
 pub mod HeadLaws
 pub mod SectionChecks
+pub mod LayoutLaws

@@ -3,7 +3,6 @@
 use mathlib.Core.Path.{◌≡◌, refl, sym, ap, ap₂, ◌∙◌, subst}
 use Prim.Native.Nat.{ℕ, zero, suc, ◌+◌, ◌*◌}
 use native.Mathlib.Omega.{arith}
-use mathlib.Core.Bool.{true}
 use mathlib.Core.List.{List}
 use lib.ListN.{length}
 use lib.Dec.{leb}
@@ -18,7 +17,7 @@ use Rattle.certificate.specs.Views.{after_entry, entry_place, places_of}
 use Rattle.file_numbers.specs.Numbers.{number_at}
 use Rattle.meaning.specs.Layout.{items, count, action, step, Kind, action_kinds, state_kinds, entry, entries}
 use Rattle.meaning.specs.Layout.{goal_at, action_count_at, action_size, after_actions, read_task}
-use Rattle.bodies.specs.Faults.{fault}
+use Rattle.entries.specs.declared.Section.TheVariants.{StateSets}
 use Rattle.layout.specs.Sections.{unknown_at, goal_off_at, section_at, step_count_at, steps_at, rest_at}
 use Rattle.meaning.proofs.Reading.{task_walked}
 use Rattle.meaning.proofs.Results.{bind_case, found_same}
@@ -42,7 +41,7 @@ entries_place bytes kinds zero i p r e = ap (λ (s : List _ × ℕ). s.1) (sym (
 entries_place bytes kinds (suc k) i p r e =
     bind_case (entry bytes (kinds i) p) _ r e λ x x! e₁.
     bind_case (entries bytes kinds (suc i) (p + 2 + number 2 bytes p) k) _ r e₁ λ s s! q.
-    let h = entry_fine bytes (kinds i) p refl (ap fault (sym x!)) in
+    let h = entry_fine bytes (kinds i) p x x! in
     let w : number 2 bytes p ≡ number_at 2 bytes p = sym (number_in 2 bytes p (omega arith)) in
     ap (λ (t : List _ × ℕ). t.1) (sym (found_same q))
     ∙ entries_place bytes kinds k (suc i) (p + 2 + number 2 bytes p) s s!
@@ -185,7 +184,7 @@ module _ (l : Limits) (bytes : List ℕ) (t : Task) (same : number 1 bytes 4 ≡
       (agree_bind (count bytes 0 256 start) _ _ λ ac ac!.
       agree_bind (entries bytes (action_kinds bytes (length t.actions)) 0 (start + 2) ac) _ _ λ es es!.
       subst (λ (o : ℕ). Agree {A = File} {B = ℕ × ℕ} Placed (later ac es)
-      (section_at bytes (record { states = true; facts = t.facts; others = o; most = l.states }) 512 es.1
+      (section_at bytes (StateSets t.facts o l.states) 512 es.1
       >>= λ ss. steps_at bytes l.steps ss.1 >>= λ _. found (es.1, ss.1)))
       (count_is bytes 0 256 start ac ac!).0
       (agree_group _ (count bytes 0 512 es.1) _ _

@@ -4,30 +4,33 @@ use mathlib.Core.Path.{◌≡◌, refl, sym, ap, ap₂, ◌∙◌}
 use Prim.Native.Nat.{ℕ, zero, suc, ◌+◌, ◌*◌, ◌/◌, ◌^◌, ◌≤◌}
 use native.Mathlib.Nat.{mul-suc}
 use native.Mathlib.Omega.{arith}
-use mathlib.Core.Bool.{Bool, true, false, not, ◌&&◌}
+use mathlib.Core.Bool.{Bool, true, false, ◌&&◌}
 use mathlib.Core.List.{List, [], ◌∷◌}
 use lib.ListN.{length}
 use lib.Bits.{bit_and}
 use lib.Dec.{leb, ltb, eqb}
-use borrow.Author.Tests.{eq-eqb, ne_eqb, not-true, not-false}
+use borrow.Author.Tests.{eq-eqb, ne_eqb}
 use Rattle.task.specs.Task.{Task}
-use Rattle.bodies.specs.declared.Fault.{Fault}
-use Rattle.bodies.specs.declared.Fault.TheVariants.{None, At}
+use Rattle.std.specs.declared.result.Result as code
+use Rattle.std.specs.declared.result.Result.TheVariants.{Ok, Err}
+use Rattle.meaning.specs.declared.Fault.{Fault}
+use Rattle.meaning.specs.Told.{told}
 use Rattle.meaning.specs.Result.{Result, refuse, found, ◌>>=◌, need}
 use Rattle.meaning.specs.Bytes.{inside}
 use Rattle.file_numbers.specs.Numbers.{number_at}
 use Rattle.meaning.specs.Layout.{items, field, count, mask, off_mask, action, goal_at, off_size, action_count_at, action_size, after_actions}
 use Rattle.meaning.specs.Layout.{unknown_mask, read_task}
-use Rattle.bodies.specs.Faults.{fault}
+use Rattle.bodies.specs.Faults.{Answer, fault}
 use Rattle.layout.specs.Sections.{facts_at, start_at, unknown_at, goals_at, goal_off_at}
 use Rattle.meaning.proofs.Results.{bind_case, bind_same, need_case, found_same}
 use Rattle.meaning.proofs.Places.{by_test, goal_first, goal_later, off_none, off_some, places}
 use Rattle.meaning.proofs.Off.{read_off, read_no_off}
 use Rattle.meaning.proofs.Unknown.{Unknown, none, some, unknown_out}
 use Rattle.file_numbers.proofs.ByteLaws.{inside_out}
-use Rattle.bodies.proofs.Faults.{forget, told, found_of, refused_of, goes_on, stops, passed, failed, forget_after}
+use Rattle.bodies.proofs.Faults.{forget, told_alike, goes_on, stops, passed, failed, forget_after}
+use Rattle.layout.proofs.ToldLaws.{told_ok, told_err, told_stops}
 use Rattle.bodies.proofs.FieldLaws.{field_in}
-use Rattle.layout.proofs.SectionChecks.{field_is, count_found}
+use Rattle.layout.proofs.SectionChecks.{field_is}
 
 -- readings one within the other, and one after the other
 in_turn : {A B D : Type 0} (r : Result A) (f : A → Result B) (g : B → Result D) (h : A → Result D) → ((x : A) → (f x >>= g) ≡ h x)
@@ -42,21 +45,6 @@ in_turn (found x) f g h e = e x
 one_mask : (read : ℕ → Result ℕ) (p : ℕ) → forget (items read 8 p 1) ≡ forget (read p)
 unfolding items ◌>>=◌
 one_mask read p = forget_after (read p) (λ x. x ∷ [])
-
--- two masks, the second at a place of its own
-two_bad : {B : Type 0} (a b : Result ℕ) (g : ℕ → ℕ → Result B) {r q : ℕ}
-    → At r q ≡ fault (a >>= λ x. (b >>= λ y. found (y ∷ [])) >>= λ ys. found (x ∷ ys)) → (a >>= λ x. b >>= λ y. g x y) ≡ refuse r q
-unfolding ◌>>=◌
-two_bad (refuse m p) b g e = cc
-two_bad (found x) (refuse m p) g e = cc
-two_bad (found x) (found y) g e = let z : ◌≡◌ {A = ℕ} 0 1 = cc in absurd (omega arith)
-
-two_good : (a b : Result ℕ) → None ≡ fault (a >>= λ x. (b >>= λ y. found (y ∷ [])) >>= λ ys. found (x ∷ ys))
-    → (x : ℕ) × (y : ℕ) × (a ≡ found x) × (b ≡ found y)
-unfolding ◌>>=◌
-two_good (refuse m p) b e = let z : ◌≡◌ {A = ℕ} 0 1 = cc in absurd (omega arith)
-two_good (found x) (refuse m p) e = let z : ◌≡◌ {A = ℕ} 0 1 = cc in absurd (omega arith)
-two_good (found x) (found y) e = (x, y, refl, refl)
 
 -- the first item of a run and what comes after it, where only refusals count
 forget_on : {A B : Type 0} (r : Result A) (g : A → Result B) (u : Result (Unit {0})) → ((x : A) → forget (g x) ≡ u)
@@ -145,43 +133,34 @@ module _ (bytes : List ℕ) (v n : ℕ) where
 -- ---- the version and the number of facts
 
 module _ (bytes : List ℕ) {t : Bool} (q : t ≡ inside 1 bytes 4) where
-  refused : {r p : ℕ} → facts_at bytes ≡ refuse r p → At r p ≡ fault (facts_at bytes)
-  refused e = sym (ap fault e)
-
-  pub version_cut : not t ≡ true → At 3 4 ≡ fault (facts_at bytes)
+  pub version_cut : t ≡ false → facts_at bytes ≡ refuse 3 4
   unfolding facts_at field
-  version_cut s = refused (stops _ (failed 3 4 _ (sym q ∙ not-true t s)))
+  version_cut s = stops _ (failed 3 4 _ (sym q ∙ s))
 
-  module _ (s : not t ≡ false) {v : ℕ} (ev : v ≡ number_at 1 bytes 4) where
+  module _ (s : t ≡ true) {v : ℕ} (ev : v ≡ number_at 1 bytes 4) where
     version_read : field bytes 1 4 ≡ found v
-    version_read = field_in bytes 4 1 (inside_out 1 bytes 4 (sym q ∙ not-false t s)) ev
+    version_read = field_in bytes 4 1 (inside_out 1 bytes 4 (sym q ∙ s)) ev
 
-    pub version_other : not (leb 1 v && leb v 3) ≡ true → At 2 4 ≡ fault (facts_at bytes)
+    pub version_other : (leb 1 v && leb v 3) ≡ false → facts_at bytes ≡ refuse 2 4
     unfolding facts_at
-    version_other g = refused (goes_on _ version_read ∙ failed 2 4 _ (not-true (leb 1 v && leb v 3) g))
+    version_other g = goes_on _ version_read ∙ failed 2 4 _ g
 
-    module _ (g : not (leb 1 v && leb v 3) ≡ false) {u : Bool} (q' : u ≡ inside 1 bytes 5) where
-      pub facts_cut : not u ≡ true → At 3 5 ≡ fault (facts_at bytes)
+    module _ (g : (leb 1 v && leb v 3) ≡ true) {u : Bool} (q' : u ≡ inside 1 bytes 5) where
+      pub facts_cut : u ≡ false → facts_at bytes ≡ refuse 3 5
       unfolding facts_at field
-      facts_cut s' =
-          refused (goes_on _ version_read ∙ passed 2 4 _ (not-false (leb 1 v && leb v 3) g)
-          ∙ stops _ (failed 3 5 _ (sym q' ∙ not-true u s')))
+      facts_cut s' = goes_on _ version_read ∙ passed 2 4 _ g ∙ stops _ (failed 3 5 _ (sym q' ∙ s'))
 
-      module _ (s' : not u ≡ false) {n : ℕ} (en : n ≡ number_at 1 bytes 5) where
+      module _ (s' : u ≡ true) {n : ℕ} (en : n ≡ number_at 1 bytes 5) where
         facts_read : field bytes 1 5 ≡ found n
-        facts_read = field_in bytes 5 1 (inside_out 1 bytes 5 (sym q' ∙ not-false u s')) en
+        facts_read = field_in bytes 5 1 (inside_out 1 bytes 5 (sym q' ∙ s')) en
 
-        pub facts_bad : not (leb 1 n && leb n 64) ≡ true → At 4 5 ≡ fault (facts_at bytes)
+        pub facts_bad : (leb 1 n && leb n 64) ≡ false → facts_at bytes ≡ refuse 4 5
         unfolding facts_at
-        facts_bad x =
-            refused (goes_on _ version_read ∙ passed 2 4 _ (not-false (leb 1 v && leb v 3) g) ∙ goes_on _ facts_read
-            ∙ failed 4 5 _ (not-true (leb 1 n && leb n 64) x))
+        facts_bad x = goes_on _ version_read ∙ passed 2 4 _ g ∙ goes_on _ facts_read ∙ failed 4 5 _ x
 
-        pub facts_good : not (leb 1 n && leb n 64) ≡ false → None ≡ fault (facts_at bytes)
+        pub facts_good : (leb 1 n && leb n 64) ≡ true → facts_at bytes ≡ found (v, n)
         unfolding facts_at
-        facts_good x =
-            sym (ap fault (goes_on _ version_read ∙ passed 2 4 _ (not-false (leb 1 v && leb v 3) g) ∙ goes_on _ facts_read
-            ∙ passed 4 5 _ (not-false (leb 1 n && leb n 64) x)))
+        facts_good x = goes_on _ version_read ∙ passed 2 4 _ g ∙ goes_on _ facts_read ∙ passed 4 5 _ x
 
 -- ---- the start and the unknown facts
 
@@ -235,48 +214,66 @@ start_inside bytes v n x e =
     bind_case (unknown_mask bytes v n s) _ x e₁ λ u u! q.
     (unknown_is bytes v n s u s! (unknown_out bytes v n s u u!)).1
 
-module _ (bytes : List ℕ) (v n : ℕ) where
-  -- without a field for them the start is all
-  pub start_one : {t : Bool} → t ≡ not (eqb v 1) → not t ≡ true → {w : Fault} → w ≡ fault (items (mask bytes n) 8 6 1)
-      → w ≡ fault (start_at bytes v n)
+-- two masks, the second at a place of its own
+two_bad : {B : Type 0} (a b : Result ℕ) (g : ℕ → ℕ → Result B) {r q : ℕ}
+    → (a >>= λ x. (b >>= λ y. found (y ∷ [])) >>= λ ys. found (x ∷ ys)) ≡ refuse r q → (a >>= λ x. b >>= λ y. g x y) ≡ refuse r q
+unfolding ◌>>=◌
+two_bad (refuse m p) b g {r = r} {q} e = let i : m ≡ r = cc in let j : p ≡ q = cc in ap₂ (λ (x y : ℕ). refuse x y) i j
+two_bad (found x) (refuse m p) g {r = r} {q} e = let i : m ≡ r = cc in let j : p ≡ q = cc in ap₂ (λ (x y : ℕ). refuse x y) i j
+two_bad (found x) (found y) g e = let z : ◌≡◌ {A = ℕ} 0 1 = cc in absurd (omega arith)
+
+two_good : (a b : Result ℕ) (xs : List ℕ) → (a >>= λ x. (b >>= λ y. found (y ∷ [])) >>= λ ys. found (x ∷ ys)) ≡ found xs
+    → (x : ℕ) × (y : ℕ) × (a ≡ found x) × (b ≡ found y)
+unfolding ◌>>=◌
+two_good (refuse m p) b xs e = let z : ◌≡◌ {A = ℕ} 0 1 = cc in absurd (omega arith)
+two_good (found x) (refuse m p) xs e = let z : ◌≡◌ {A = ℕ} 0 1 = cc in absurd (omega arith)
+two_good (found x) (found y) xs e = (x, y, refl, refl)
+
+-- without a field for them the start is all
+pub start_one : (bytes : List ℕ) (v n : ℕ) → eqb v 1 ≡ true → {w : Answer} → w ≡ fault (items (mask bytes n) 8 6 1)
+    → w ≡ fault (start_at bytes v n)
+unfolding start_at unknown_mask ◌>>=◌
+start_one bytes v n z i =
+    i ∙ told_alike (items (mask bytes n) 8 6 1) (start_at bytes v n)
+    (one_mask (mask bytes n) 6 ∙ sym (rw (start_at, unknown_mask, z) (forget_after (mask bytes n 6) (λ s. (s, 0)))))
+
+-- with one, both masks are read, one after the other
+module _ (bytes : List ℕ) (v n : ℕ) (later : eqb v 1 ≡ false) where
+  abbrev tests : ℕ → ℕ → Result (ℕ × ℕ)
+  tests s u = need (eqb (bit_and s u) 0) 16 14 >>= λ _. found (s, u)
+
+  then : start_at bytes v n ≡ (mask bytes n 6 >>= λ s. mask bytes n 14 >>= λ u. tests s u)
   unfolding start_at unknown_mask ◌>>=◌
-  start_one {t} e h i =
-      let z : eqb v 1 ≡ true = not-false (eqb v 1) (sym e ∙ not-true t h) in
-      i ∙ told (items (mask bytes n) 8 6 1) (start_at bytes v n)
-      (one_mask (mask bytes n) 6 ∙ sym (rw (start_at, unknown_mask, z) (forget_after (mask bytes n 6) (λ s. (s, 0)))))
+  then =
+      rw (start_at, unknown_mask, later)
+      (bind_same {r = mask bytes n 6} refl λ s. in_turn (mask bytes n 14) _ _ _ λ u.
+      in_turn (need (eqb (bit_and s u) 0) 16 14) _ _ _ λ _. refl)
 
-  module _ {t : Bool} (e : t ≡ not (eqb v 1)) (h : not t ≡ false) {w : Fault} (i : w ≡ fault (items (mask bytes n) 8 6 2)) where
-    later : eqb v 1 ≡ false
-    later = not-true (eqb v 1) (sym e ∙ not-false t h)
+  abbrev both : Result (List ℕ)
+  both = mask bytes n 6 >>= λ s. (mask bytes n 14 >>= λ u. found (u ∷ [])) >>= λ us. found (s ∷ us)
 
-    -- both masks, one after the other
-    then : start_at bytes v n
-        ≡ (mask bytes n 6 >>= λ s. mask bytes n 14 >>= λ u. need (eqb (bit_and s u) 0) 16 14 >>= λ _. found (s, u))
-    unfolding start_at unknown_mask ◌>>=◌
-    then =
-        rw (start_at, unknown_mask, later)
-        (bind_same {r = mask bytes n 6} refl λ s. in_turn (mask bytes n 14) _ _ _ λ u.
-        in_turn (need (eqb (bit_and s u) 0) 16 14) _ _ _ λ _. refl)
+  pub start_bad : {x w : Answer} {e : Fault} → x ≡ fault (items (mask bytes n) 8 6 2) → x ≡ Err e → w ≡ Err e → w ≡ fault (start_at bytes v n)
+  unfolding items ◌>>=◌
+  start_bad i g z =
+      let k = told_err (λ _. tt) both i g in
+      z ∙ sym (ap (told (λ _. tt)) (then ∙ two_bad (mask bytes n 6) (mask bytes n 14) tests k))
 
-    pub start_bad : {r p : ℕ} → w ≡ At r p → At r p ≡ fault (start_at bytes v n)
+  module _ {w : Answer} {d : Unit {0}} (i : w ≡ fault (items (mask bytes n) 8 6 2)) (g : w ≡ Ok d) {s u : ℕ} (es : s ≡ number_at 8 bytes 6)
+      (eu : u ≡ number_at 8 bytes 14) where
+    tested : start_at bytes v n ≡ tests s u
     unfolding items ◌>>=◌
-    start_bad g = sym (ap fault (then ∙ two_bad (mask bytes n 6) (mask bytes n 14) _ (sym g ∙ i)))
+    tested =
+        let k = told_ok (λ _. tt) both i g in
+        let m = two_good (mask bytes n 6) (mask bytes n 14) k.0 k.1 in
+        let a : m.0 ≡ s = (mask_is bytes n 6 m.0 m.2).0 ∙ sym es in
+        let b : m.1 ≡ u = (mask_is bytes n 14 m.1 m.3).0 ∙ sym eu in
+        then ∙ goes_on _ m.2 ∙ goes_on _ m.3 ∙ ap₂ tests a b
 
-    module _ (g : w ≡ None) {s u : ℕ} (es : s ≡ number_at 8 bytes 6) (eu : u ≡ number_at 8 bytes 14) where
-      tested : start_at bytes v n ≡ (need (eqb (bit_and s u) 0) 16 14 >>= λ _. found (s, u))
-      unfolding items ◌>>=◌
-      tested =
-          let m = two_good (mask bytes n 6) (mask bytes n 14) (sym g ∙ i) in
-          let a : m.0 ≡ s = (mask_is bytes n 6 m.0 m.2).0 ∙ sym es in
-          let b : m.1 ≡ u = (mask_is bytes n 14 m.1 m.3).0 ∙ sym eu in
-          then ∙ goes_on _ m.2 ∙ goes_on _ m.3
-          ∙ ap₂ (λ (x y : ℕ). need (eqb (bit_and x y) 0) 16 14 >>= λ _. found (x, y)) a b
+    pub start_clash : (bit_and s u ≡ 0 → ⊥) → Err (record { number = 16; place = 14 }) ≡ fault (start_at bytes v n)
+    start_clash c = sym (ap (told (λ _. tt)) (tested ∙ failed 16 14 _ (ne_eqb (bit_and s u) 0 c)))
 
-      pub start_clash : (bit_and s u ≡ 0 → ⊥) → At 16 14 ≡ fault (start_at bytes v n)
-      start_clash c = sym (ap fault (tested ∙ failed 16 14 _ (ne_eqb (bit_and s u) 0 c)))
-
-      pub start_good : bit_and s u ≡ 0 → None ≡ fault (start_at bytes v n)
-      start_good c = sym (ap fault (tested ∙ passed 16 14 _ (eq-eqb (bit_and s u) 0 c)))
+    pub start_good : bit_and s u ≡ 0 → Ok tt ≡ fault (start_at bytes v n)
+    start_good c = sym (ap (told (λ _. tt)) (tested ∙ passed 16 14 _ (eq-eqb (bit_and s u) 0 c)))
 
 -- ---- the task
 
@@ -302,11 +299,9 @@ module _ (bytes : List ℕ) where
       let h = from_goal v n (s, u) in
       in_turn (mask bytes n (goal_at v)) _ h _ λ g. in_turn (off_mask bytes v n (goal_at v + 8)) _ h _ λ o. refl
 
-  refused_task : {r p : ℕ} → read_task bytes ≡ refuse r p → At r p ≡ fault (read_task bytes)
-  refused_task e = sym (ap fault e)
-
-  pub opening_bad : {v : Fault} {r p : ℕ} → v ≡ At r p → v ≡ fault (facts_at bytes) → At r p ≡ fault (read_task bytes)
-  opening_bad {r = r} {p} z y = refused_task (sym opened ∙ stops _ (refused_of (facts_at bytes) r p (sym z ∙ y)))
+  pub opening_bad : {v : code.Result ℕ Fault} {w : Answer} {e : Fault} → v ≡ told (λ x. x.0) (facts_at bytes) → v ≡ Err e → w ≡ Err e
+      → w ≡ fault (read_task bytes)
+  opening_bad y z k = told_stops (λ (x : ℕ × ℕ). x.0) (λ _. tt) (facts_at bytes) from_facts y z k ∙ ap (told (λ _. tt)) opened
 
   -- the version and the number of facts are within the file
   facts_found : (x : ℕ × ℕ) → facts_at bytes ≡ found x
@@ -335,47 +330,47 @@ module _ (bytes : List ℕ) where
     pub goal : ℕ × ℕ
     pub reads : read_task bytes ≡ from_goal v n start goal
 
-  pub opened_well : {f : Fault} {v n : ℕ} → f ≡ None → f ≡ fault (facts_at bytes) → v ≡ number_at 1 bytes 4 → n ≡ number_at 1 bytes 5
-      → Opened v n
-  opened_well good o ev en =
-      let x = found_of (facts_at bytes) (sym good ∙ o) in
+  pub opened_well : {f : code.Result ℕ Fault} {v n : ℕ} → f ≡ told (λ x. x.0) (facts_at bytes) → f ≡ Ok v → n ≡ number_at 1 bytes 5
+      → Opened v n × (v ≡ number_at 1 bytes 4)
+  opened_well o good en =
+      let x = told_ok (λ (x : ℕ × ℕ). x.0) (facts_at bytes) o good in
       let h = facts_found x.0 x.1 in
-      record {
-        reads = sym opened ∙ goes_on _ x.1 ∙ ap₂ (λ (y z : ℕ). from_facts (y, z)) (h.0 ∙ sym ev) (h.1 ∙ sym en);
-        ends = h.2;
-      }
+      (record { reads = sym opened ∙ goes_on _ x.1 ∙ ap₂ (λ (y z : ℕ). from_facts (y, z)) x.2 (h.1 ∙ sym en); ends = h.2 }, sym x.2 ∙ h.0)
 
-  goal_told : (v n : ℕ) {w : Fault} → w ≡ fault (items (mask bytes n) 8 (goal_at v) (1 + off_size v / 8)) → w ≡ fault (goals_at bytes v n)
-  goal_told v n i = i ∙ told (items (mask bytes n) 8 (goal_at v) (1 + off_size v / 8)) (goals_at bytes v n) (goals_run bytes v n)
+  goal_told : (v n : ℕ) {w : Answer} → w ≡ fault (items (mask bytes n) 8 (goal_at v) (1 + off_size v / 8)) → w ≡ fault (goals_at bytes v n)
+  goal_told v n i = i ∙ told_alike (items (mask bytes n) 8 (goal_at v) (1 + off_size v / 8)) (goals_at bytes v n) (goals_run bytes v n)
 
   module _ {v n : ℕ} where
-    pub start_refused : Opened v n → {w : Fault} {r p : ℕ} → w ≡ At r p → w ≡ fault (start_at bytes v n) → At r p ≡ fault (read_task bytes)
-    start_refused o {r = r} {p} z y = refused_task (o.reads ∙ stops _ (refused_of (start_at bytes v n) r p (sym z ∙ y)))
+    pub start_refused : Opened v n → {u w : Answer} {e : Fault} → u ≡ fault (start_at bytes v n) → u ≡ Err e → w ≡ Err e
+        → w ≡ fault (read_task bytes)
+    start_refused o y z k = told_stops (λ _. tt) (λ _. tt) (start_at bytes v n) _ y z k ∙ sym (ap (told (λ _. tt)) o.reads)
 
-    pub started_well : Opened v n → {w : Fault} → w ≡ None → w ≡ fault (start_at bytes v n) → Started v n
-    started_well o fine y =
-        let x = found_of (start_at bytes v n) (sym fine ∙ y) in
+    pub started_well : Opened v n → {w : Answer} {u : Unit {0}} → w ≡ fault (start_at bytes v n) → w ≡ Ok u → Started v n
+    started_well o y fine =
+        let x = told_ok (λ _. tt) (start_at bytes v n) y fine in
         record { start = x.0; reads = o.reads ∙ goes_on _ x.1; ends = start_inside bytes v n x.0 x.1 }
 
-    pub goal_refused : Started v n → {w : Fault} {r p : ℕ} → w ≡ At r p
-        → w ≡ fault (items (mask bytes n) 8 (goal_at v) (1 + off_size v / 8)) → At r p ≡ fault (read_task bytes)
-    goal_refused t {r = r} {p} z i = refused_task (t.reads ∙ stops _ (refused_of (goals_at bytes v n) r p (sym z ∙ goal_told v n i)))
+    pub goal_refused : Started v n → {u w : Answer} {e : Fault} → u ≡ fault (items (mask bytes n) 8 (goal_at v) (1 + off_size v / 8))
+        → u ≡ Err e → w ≡ Err e → w ≡ fault (read_task bytes)
+    goal_refused t i z k =
+        told_stops (λ _. tt) (λ _. tt) (goals_at bytes v n) _ (goal_told v n i) z k ∙ sym (ap (told (λ _. tt)) t.reads)
 
-    pub aimed_well : Started v n → {w : Fault} → w ≡ None → w ≡ fault (items (mask bytes n) 8 (goal_at v) (1 + off_size v / 8)) → Aimed v n
-    aimed_well t fine i =
-        let g = found_of (goals_at bytes v n) (sym fine ∙ goal_told v n i) in
+    pub aimed_well : Started v n → {w : Answer} {u : Unit {0}} → w ≡ fault (items (mask bytes n) 8 (goal_at v) (1 + off_size v / 8))
+        → w ≡ Ok u → Aimed v n
+    aimed_well t i fine =
+        let g = told_ok (λ _. tt) (goals_at bytes v n) (goal_told v n i) fine in
         record { start = t.start; goal = g.0; reads = t.reads ∙ goes_on _ g.1 }
 
-    pub count_refused : Aimed v n → {w : Fault} {r p : ℕ} → w ≡ At r p → w ≡ fault (count bytes 0 256 (action_count_at v))
-        → At r p ≡ fault (read_task bytes)
-    count_refused t {r = r} {p} j z = refused_task (t.reads ∙ stops _ (refused_of (count bytes 0 256 (action_count_at v)) r p (sym j ∙ z)))
+    pub count_refused : Aimed v n → {u : code.Result ℕ Fault} {w : Answer} {e : Fault}
+        → u ≡ told (λ c. c) (count bytes 0 256 (action_count_at v)) → u ≡ Err e → w ≡ Err e → w ≡ fault (read_task bytes)
+    count_refused t y z k =
+        told_stops (λ c. c) (λ _. tt) (count bytes 0 256 (action_count_at v)) _ y z k ∙ sym (ap (told (λ _. tt)) t.reads)
 
-    pub actions_say : Aimed v n → {w : Fault} → w ≡ None → w ≡ fault (count bytes 0 256 (action_count_at v))
-        → {m : ℕ} → m ≡ number_at 2 bytes (action_count_at v)
-        → {j : Fault} → j ≡ fault (items (mask bytes n) 8 (action_count_at v + 2) (action_size v / 8 * m)) → j ≡ fault (read_task bytes)
-    actions_say t good z {m} em j =
+    pub actions_say : Aimed v n → {m : ℕ} → count bytes 0 256 (action_count_at v) ≡ found m
+        → {j : Answer} → j ≡ fault (items (mask bytes n) 8 (action_count_at v + 2) (action_size v / 8 * m)) → j ≡ fault (read_task bytes)
+    actions_say t {m} m! j =
         j
-        ∙ told (items (mask bytes n) 8 (action_count_at v + 2) (action_size v / 8 * m)) (read_task bytes)
+        ∙ told_alike (items (mask bytes n) 8 (action_count_at v + 2) (action_size v / 8 * m)) (read_task bytes)
         (actions_run bytes v n m (action_count_at v + 2)
         ∙ sym (forget_after (items (action bytes v n) (action_size v) (action_count_at v + 2) m) _)
-        ∙ ap forget (sym (t.reads ∙ goes_on _ (count_found bytes 0 256 (action_count_at v) good z em))))
+        ∙ ap forget (sym (t.reads ∙ goes_on _ m!)))

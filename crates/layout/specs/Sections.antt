@@ -1,22 +1,16 @@
 -- Sections of a file as the code reads them, and what follows the actions.
 -- Assumes nothing.
 use Rattle.std.specs.Prelude.{ℕ, ◌+◌, ◌*◌, Bool, true, false, ◌&&◌, List, length, leb, eqb}
-use Rattle.layout.specs.declared.Rest.{Rest}
-use Rattle.layout.specs.declared.Rest.TheVariants.{After as Both, Refused as Ended}
 use Rattle.task.specs.declared.Ends.{Ends}
 use Rattle.reader.specs.declared.TaskHead.{TaskHead}
 use Rattle.entries.specs.declared.Section.{Section}
-use Rattle.meaning.specs.Result.{Result, refuse, found, ◌>>=◌, need}
+use Rattle.entries.specs.declared.Section.TheVariants.{ActionSets, StateSets}
+use Rattle.meaning.specs.Result.{Result, found, ◌>>=◌, need}
 use Rattle.file_numbers.specs.Numbers.{number_at}
 use Rattle.meaning.specs.File.{Step}
 use Rattle.meaning.specs.declared.Limits.{Limits}
 use Rattle.meaning.specs.Layout.{items, goal_at, off_size, field, count, mask, off_mask, step, entries, unknown_mask}
 use Rattle.entries.specs.Forms.{sets_of}
-
--- a reading of what follows the actions, as two places
-abbrev pub rest : Result (ℕ × ℕ) → Rest
-rest (refuse r p) = Ended r p
-rest (found x) = Both x.0 x.1
 
 -- a lawful length, which the file's first four bytes tell
 unfoldable pub is_whole : List ℕ → Bool
@@ -81,7 +75,7 @@ steps_at bytes most p = do
 -- all of it from place p on, for n facts and m actions: the places after the action sets and after the state sets
 unfoldable pub rest_at : List ℕ → Limits → ℕ → ℕ → ℕ → Result (ℕ × ℕ)
 rest_at bytes l n m p = do
-  es ← section_at bytes (record { states = false; facts = n; others = m; most = l.states }) 256 p
-  ss ← section_at bytes (record { states = true; facts = n; others = number_at 2 bytes p; most = l.states }) 512 es.1
+  es ← section_at bytes (ActionSets m) 256 p
+  ss ← section_at bytes (StateSets n (number_at 2 bytes p) l.states) 512 es.1
   _ ← steps_at bytes l.steps ss.1
   found (es.1, ss.1)

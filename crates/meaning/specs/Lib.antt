@@ -12,6 +12,7 @@ pub mod Truth
 pub mod Match
 pub mod Step
 pub mod Reply
+pub mod Told
 pub mod Judged
 pub mod Numbering
 pub mod Question

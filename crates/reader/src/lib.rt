@@ -37,7 +37,7 @@ pub fn reader_at<'a>(src: &'a [u8], at: usize) -> Reader<'a>
     Reader { src, at }
 }
 
-// The number in the byte, or in the two or eight bytes, at the reader's place.
+// The number in the byte, or in the two or eight bytes, at the reader's place: thin functions, as document 01's form is.
 pub(crate) fn byte<'a>(r: Reader<'a>) -> u8
     ensures { result ≡ number_at 1 r.entry.src.now r.entry.at }
 {

@@ -10,11 +10,11 @@ use Rattle.bodies.proofs.reference.Goals as goal
 pub returns-then-u16_at-bound : goal.returns-then-u16_at-bound
 returns-then-u16_at-bound c =
     let a = c.args in
-    from_fine a.start (reference a.part.now a.bound a.at)
-    (ap forget (reference_in a.part.now a.at a.bound c.u16_at.ensures (search rules) (search rules)))
+    from_fine a.part.now.start (reference a.part.now.bytes.now a.bound a.at)
+    (ap forget (reference_in a.part.now.bytes.now a.at a.bound c.u16_at.ensures (search rules) (search rules)))
 
 pub returns-else-u16_at-bound : goal.returns-else-u16_at-bound
 returns-else-u16_at-bound c =
     let a = c.args in
-    from_refused a.start (reference a.part.now a.bound a.at) 6 a.at
-    (ap forget (reference_high a.part.now a.at a.bound c.u16_at.ensures (search rules) (search rules)))
+    from_refused a.part.now.start (reference a.part.now.bytes.now a.bound a.at) 6 a.at
+    (ap forget (reference_high a.part.now.bytes.now a.at a.bound c.u16_at.ensures (search rules) (search rules)))

@@ -11,9 +11,7 @@ returns-then-off_size-eq0 c = goal_off_none _ _ (sym c.off_size.ensures ∙ c.if
 
 pub returns-else-off_size-eq0 : goal.returns-else-off_size-eq0
 returns-else-off_size-eq0 c =
-    let g = c in
-    let o = g in
-    let bytes = o.args.file.now in
+    let bytes = c.args.file.now in
     c.u64_at.ensures
-    ∙ ap (λ (p : ℕ). number_at 8 bytes (p + 8)) g.goal_at.ensures
-    ∙ goal_off_some bytes _ (λ z. g.if-off_size-eq0.false (o.off_size.ensures ∙ z))
+    ∙ ap (λ (p : ℕ). number_at 8 bytes (p + 8)) c.goal_at.ensures
+    ∙ goal_off_some bytes _ (λ z. c.if-off_size-eq0.false (c.off_size.ensures ∙ z))

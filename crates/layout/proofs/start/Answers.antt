@@ -1,35 +1,30 @@
 -- `layout::start` meets its contract.
 -- Assumes nothing.
-use Rattle.layout.proofs.RowLaws.{masks_told}
+use mathlib.Core.Path.{sym, ◌∙◌}
+use borrow.Author.Rules.{rules}
+use borrow.Author.Tests.{not-true, not-false}
 use Rattle.layout.proofs.TaskLaws.{start_one, start_bad, start_clash, start_good}
-use Rattle.std.proofs.lemmas.Bool.{not_from_false, not_from_true}
 use Rattle.layout.proofs.start.Goals as goal
 
 pub returns-then-not-has_unknown : goal.returns-then-not-has_unknown
 returns-then-not-has_unknown c =
     let a = c.args in
-    start_one a.file.now a.version a.facts c.has_unknown.ensures (not_from_false _ c.if-not-has_unknown.true)
-    (masks_told a.file.now a.facts 1 6 c.walk-one.ensures)
+    start_one a.file.now a.version a.facts (not-false _ (sym c.has_unknown.ensures ∙ c.if-not-has_unknown.true)) c.masks.ensures
 
-pub returns-in-At : goal.returns-in-At
-returns-in-At c =
-    let w = c in
-    let a = w.args in
-    start_bad a.file.now a.version a.facts w.has_unknown.ensures (not_from_true _ w.if-not-has_unknown.false)
-    (masks_told a.file.now a.facts 2 6 w.walk-two.ensures) c.in-At.is
+pub returns-in_err-masks : goal.returns-in_err-masks
+returns-in_err-masks c =
+    let a = c.args in
+    start_bad a.file.now a.version a.facts (not-true _ (sym c.has_unknown.ensures ∙ c.if-not-has_unknown.false)) c.masks-2.ensures
+    c.in_err-masks.was (search rules)
 
-pub returns-then-u64_at-eq0 : goal.returns-then-u64_at-eq0
-returns-then-u64_at-eq0 c =
-    let w = c in
-    let a = w.args in
-    start_good a.file.now a.version a.facts w.has_unknown.ensures (not_from_true _ w.if-not-has_unknown.false)
-    (masks_told a.file.now a.facts 2 6 w.walk-two.ensures) c.in_default.is
-    c.u64_at.ensures c.u64_at-2.ensures c.if-u64_at-eq0.true
+pub returns-then-u64_at-ne0 : goal.returns-then-u64_at-ne0
+returns-then-u64_at-ne0 c =
+    let a = c.args in
+    start_clash a.file.now a.version a.facts (not-true _ (sym c.has_unknown.ensures ∙ c.if-not-has_unknown.false)) c.masks-2.ensures
+    c.in_ok-masks.was c.u64_at.ensures c.u64_at-2.ensures c.if-u64_at-ne0.true
 
-pub returns-else-u64_at-eq0 : goal.returns-else-u64_at-eq0
-returns-else-u64_at-eq0 c =
-    let w = c in
-    let a = w.args in
-    start_clash a.file.now a.version a.facts w.has_unknown.ensures (not_from_true _ w.if-not-has_unknown.false)
-    (masks_told a.file.now a.facts 2 6 w.walk-two.ensures) c.in_default.is
-    c.u64_at.ensures c.u64_at-2.ensures c.if-u64_at-eq0.false
+pub returns : goal.returns
+returns c =
+    let a = c.args in
+    start_good a.file.now a.version a.facts (not-true _ (sym c.has_unknown.ensures ∙ c.if-not-has_unknown.false)) c.masks-2.ensures
+    c.in_ok-masks.was c.u64_at.ensures c.u64_at-2.ensures c.if-u64_at-ne0.false
