@@ -83,6 +83,10 @@ module _ (bytes : List ℕ) (at : Places) (k : Placed bytes at) where
   unfolding places_of
   placed_ends = ap (λ (q : Places). q.ends) k.places
 
+  pub placed_actions : at.actions ≡ length (decoded bytes).task.actions
+  unfolding places_of
+  placed_actions = ap (λ (q : Places). q.actions) k.places
+
   pub placed_action_sets : at.action_sets ≡ length (decoded bytes).action_sets
   unfolding places_of
   placed_action_sets = ap (λ (q : Places). q.action_sets) k.places

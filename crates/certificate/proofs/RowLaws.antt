@@ -8,6 +8,8 @@ use mathlib.Core.Bool.{true, false, not}
 use mathlib.Core.List.{List}
 use lib.ListN.{length, get_or}
 use borrow.Author.Tests.{eq-eqb, ne_eqb}
+use Rattle.task.proofs.Tests.{same}
+use Rattle.meaning.proofs.Below.{some_of}
 use Rattle.file_numbers.specs.Numbers.{number_at}
 use Rattle.sorting.specs.Rows.{state_at, Ascends, Ordered}
 use Rattle.certificate.specs.declared.Span.{Span}
@@ -42,7 +44,7 @@ module _ {bytes index : List ℕ} {x : Span} (short : length bytes ≤ 65536) wh
     inside = inside;
     short = short;
     below = λ k l. omega (arith, row_none index x k none);
-    every = λ j l. (j, l, state j);
+    every = λ j l. some_of x.count _ j l (same (state j));
     ascend = λ i j l m. elim (dec_lt i j) [
       | yes n ↦ omega (arith, state i, state j, a i j n m)
       | no n ↦ (let q : i ≡ j = omega arith in omega (arith, ap (state_in bytes index x) q))
@@ -58,7 +60,7 @@ module _ {bytes index : List ℕ} {x : Span} (short : length bytes ≤ 65536) wh
     inside = o.room.inside;
     short = short;
     below = λ k l. omega (arith, row_some index x k some, o.below k l);
-    every = λ j l. (let w = o.every j l in (w.0, w.1, state w.0 ∙ w.2));
+    every = λ j l. (let w = o.every j l in some_of x.count _ w.0 w.1 (same (state w.0 ∙ w.2)));
     ascend = λ i j l m. omega (arith, state i, state j, o.ascend i j l m);
   }
     where

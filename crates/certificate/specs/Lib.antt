@@ -2,3 +2,4 @@ pub mod Views
 pub mod Index
 pub mod Rows
 pub mod Known
+pub mod Faults

@@ -2,8 +2,9 @@
 -- of its states by size has in the file. There are no rows where all sets ascend as they stand. Only the code's inner promises speak of
 -- this.
 -- Assumes nothing.
-use Rattle.std.specs.Prelude.{◌≡◌, ℕ, suc, ◌+◌, ◌-◌, ◌*◌, ◌/◌, ◌≤◌, ◌<◌, Bool, true, false, not, List, length, get_or, eqb}
+use Rattle.std.specs.Prelude.{◌≡◌, ℕ, suc, ◌+◌, ◌-◌, ◌*◌, ◌/◌, ◌≤◌, ◌<◌, Bool, true, false, not, List, length, get_or, T, eqb}
 use Rattle.file_numbers.specs.Numbers.{number_at}
+use Rattle.meaning.specs.Sets.{some_below}
 use Rattle.sorting.specs.Rows.{state_at, Ascends, Ordered}
 use Rattle.certificate.specs.declared.Span.{Span}
 use Rattle.certificate.specs.declared.BasicEntry.{BasicEntry}
@@ -49,7 +50,7 @@ pub record InOrder (bytes index : List ℕ) (x : Span) : Type 0 where
   pub inside : x.at + 8 * x.count ≤ length bytes
   pub short : length bytes ≤ 65536
   pub below : (k : ℕ) → k < x.count → row_of index x k < x.count
-  pub every : (j : ℕ) → j < x.count → (k : ℕ) × (k < x.count) × (state_in bytes index x k ≡ state_at bytes x.at j)
+  pub every : (j : ℕ) → j < x.count → T (some_below x.count (λ k. eqb (state_in bytes index x k) (state_at bytes x.at j)))
   pub ascend : (i j : ℕ) → i ≤ j → j < x.count → state_in bytes index x i ≤ state_in bytes index x j
 
 -- ---- before the rows are put there

@@ -6,8 +6,6 @@ use Rattle.task.specs.Inner.{ends_of}
 use Rattle.certificate.specs.declared.Places.{Places}
 use Rattle.certificate.specs.declared.Span.{Span}
 use Rattle.certificate.specs.declared.Actions.{Actions}
-use Rattle.certificate.specs.declared.Outline.{Outline}
-use Rattle.certificate.specs.declared.Outline.TheVariants.{Refused, Lawful}
 use Rattle.certificate.specs.declared.ActionEntry.{ActionEntry}
 use Rattle.certificate.specs.declared.ActionEntry.TheVariants.{All, Listed, Either}
 use Rattle.certificate.specs.declared.BasicEntry.{BasicEntry}
@@ -18,8 +16,10 @@ use Rattle.certificate.specs.declared.Judgement.{Judgement}
 use Rattle.certificate.specs.declared.Judgement.TheVariants.{Dead, Within, ActionsWithin, Unsolvable}
 use Rattle.certificate.specs.declared.Premises.{Premises}
 use Rattle.certificate.specs.declared.Step as code
+use Rattle.std.specs.declared.result.Result as result
 use Rattle.certificate.specs.declared.views.Head.{Head}
-use Rattle.meaning.specs.Result.{Result, refuse, found}
+use Rattle.meaning.specs.declared.Fault.{Fault}
+use Rattle.meaning.specs.Told.{told}
 use Rattle.meaning.specs.File as file
 use Rattle.meaning.specs.File.{ActionSet, all, listed, either, empty, init, goal, explicit, horn, two_cnf}
 use Rattle.meaning.specs.File.{StateSet, basic, complement, intersection, union, progression, regression, Step, File, step_at}
@@ -53,13 +53,9 @@ places_of bytes f =
       steps_at = k;
     }
 
--- the layout check's cases, with the number and place of documents 01 and 02
-unfoldable pub outline_to : List ℕ → Result File → Outline
-outline_to bytes (refuse r p) = Refused r p
-outline_to bytes (found f) = Lawful (places_of bytes f)
-
-unfoldable pub outline_of : Limits → List ℕ → Outline
-outline_of l bytes = outline_to bytes (read_within l bytes)
+-- what the layout check says: where everything is, or the number and place of documents 01 and 02
+unfoldable pub outline_of : Limits → List ℕ → result.Result Places Fault
+outline_of l bytes = told (places_of bytes) (read_within l bytes)
 
 -- ---- an entry as it stands at place p: its kind picks the case
 

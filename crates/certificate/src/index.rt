@@ -3,68 +3,36 @@ ghost use Rattle.std.specs.Prelude.{◌≡◌, ◌↔◌, ℕ, ◌+◌, ◌≤�
 ghost use Rattle.certificate.specs.Index.{capped, Indexed};
 ghost use Rattle.certificate.specs.Rows.{listed_by, states_of, states_at, Tabled, AllAscend, WithRows};
 ghost use Rattle.certificate.specs.Known.{Known, Placed};
+ghost use Rattle.std.specs.Fn.{FnOnceReturnsAt};
 
 use crate::views::state_entry;
-use crate::{BasicEntry, Places, Span, StateEntry};
+use crate::{BasicEntry, Checked, Laid, Places, Span, StateEntry, Whole};
 use file_numbers::u16_at;
 use sorting::{ascends, order_rows};
-
-// A place as two bytes hold it.
-fn capped_at(at: usize) -> u16
-    ensures { result ≡ capped at }
-{
-    if at < 65535 { at as u16 } else { 65535 }
-}
 
 // Puts the places of `count` entries, of which the first is at `first`, into a table at `from` and after it, as far as the table goes.
 pub(crate) fn index_entries(file: &[u8], first: u32, count: u16, index: &mut [u16], from: u16)
     ensures { Indexed file.now first count from index.old index.new }
 {
     let mut at = first as usize;
-    let mut k = 0u16;
-    while k < count {
+    for k in 0..count {
         let i = from as usize + k as usize;
         if index.len() <= i {
             return;
         }
-        index[i] = capped_at(at);
+        index[i] = at.min(65535) as u16;
         at = at + 2 + u16_at(file, at) as usize;
-        k += 1;
     }
 }
 
-// No states.
-fn no_states() -> Span
-    ensures { result ≡ record { at = 0; count = 0 } }
-{
-    Span { at: 0, count: 0 }
-}
-
-// The states that a set lists; none where it lists none.
-fn listed_by(set: BasicEntry) -> Span
-    ensures { result ≡ listed_by set }
-{
-    match set {
-        BasicEntry::Empty => no_states(),
-        BasicEntry::Init => no_states(),
-        BasicEntry::Goal => no_states(),
-        BasicEntry::Explicit(x) => x,
-        BasicEntry::Horn(_) => no_states(),
-        BasicEntry::TwoCnf(_) => no_states(),
-    }
-}
-
-// The same of any state set.
+// The states that a state set lists. Where it lists none the span is empty: every use passes over it without a case of its own.
+#[tactic(auto, unfolding(crate::specs::Rows::states_of, crate::specs::Rows::listed_by))]
 fn states_of(set: StateEntry) -> Span
     ensures { result ≡ states_of set }
 {
     match set {
-        StateEntry::Basic(b) => listed_by(b),
-        StateEntry::Complement(_) => no_states(),
-        StateEntry::Intersection(_, _) => no_states(),
-        StateEntry::Union(_, _) => no_states(),
-        StateEntry::Progression(_, _) => no_states(),
-        StateEntry::Regression(_, _) => no_states(),
+        StateEntry::Basic(BasicEntry::Explicit(x)) => x,
+        _ => Span { at: 0, count: 0 },
     }
 }
 
@@ -81,13 +49,11 @@ fn all_ascend(file: &[u8], count: u16, index: &[u16]) -> bool
     requires { Tabled file.now index.now count }
     ensures { T result ↔ AllAscend file.now index.now count }
 {
-    let mut e = 0u16;
-    while e < count {
+    for e in 0..count {
         let x = states_at(file, index, e);
         if !ascends(file, x.at, x.count as u32) {
             return false;
         }
-        e += 1;
     }
     true
 }
@@ -97,11 +63,9 @@ fn order_sets(file: &[u8], count: u16, index: &mut [u16])
     requires { Tabled file.now index.old count }
     ensures { WithRows file.now count index.old index.new }
 {
-    let mut e = 0u16;
-    while e < count {
+    for e in 0..count {
         let x = states_at(file, index, e);
         order_rows(file, x.at, x.count as u32, index, 768 + x.at as usize / 8);
-        e += 1;
     }
 }
 
@@ -116,4 +80,21 @@ pub fn put_entries(file: &[u8], at: Places, index: &mut [u16])
         index[8960] = 1;
         order_sets(file, at.state_sets, index);
     }
+}
+
+// Makes the table of a file's entries, and hands the file on with it. The table is here and gone with the return.
+pub fn with_entries<R, F: FnOnce(&Whole) -> R>(laid: &Laid, then: F) -> R
+    requires { F.IsAlwaysCallable then }
+    ensures { (whole : _) × (whole.laid ≡ laid.now) × FnOnceReturnsAt F.FnOnce then whole result }
+{
+    let mut index = [0u16; 8961];
+    put_entries(laid.bytes, laid.at, &mut index);
+    let entries = Checked {
+        bytes: laid.bytes,
+        index: &index,
+    };
+    then(&Whole {
+        laid: *laid,
+        entries,
+    })
 }

@@ -1,6 +1,12 @@
 // The file as it stands in memory: the places of its parts, and its entries and steps as values.
 #![tactic(auto)]
 
+ghost use Rattle.std.specs.Prelude.{◌≡◌};
+ghost use Rattle.std.proofs.Props.{props};
+ghost use Rattle.task.specs.Inner.{ends_of};
+ghost use Rattle.certificate.specs.Known.{Known, Placed, decoded};
+ghost use Rattle.certificate.specs.Faults.{number_of};
+
 use task::Ends;
 
 pub mod index;
@@ -24,15 +30,48 @@ pub struct Places {
     pub steps_at: u32,
 }
 
-// What the layout check finds: the refusal number, 1 to 7, 16 or 19, and place; or where everything is.
+// A file that was read, and where its parts stand.
 #[derive(Clone, Copy)]
-pub enum Outline {
-    Refused { number: u8, place: u32 },
-    Lawful(Places),
+pub struct Laid<'a> {
+    pub bytes: &'a [u8],
+    pub at: Places,
+    ghost placed: { Placed bytes.now at } by { Prim.hlevel props },
+}
+
+// A file that was read, and the table of its entries.
+#[derive(Clone, Copy)]
+pub struct Checked<'a> {
+    pub bytes: &'a [u8],
+    pub index: &'a Index,
+    ghost known: { Known bytes.now index.now } by { Prim.hlevel props },
+}
+
+// One file as both.
+#[derive(Clone, Copy)]
+pub struct Whole<'a> {
+    pub laid: Laid<'a>,
+    pub entries: Checked<'a>,
+    ghost same: { laid.bytes.now ≡ entries.bytes.now } by { Prim.hlevel props },
+}
+
+// A file that was read, the table of its entries, and its task's ends.
+#[derive(Clone, Copy)]
+pub struct WithEnds<'a> {
+    pub entries: Checked<'a>,
+    pub ends: Ends,
+    ghost ends_are: { ends ≡ ends_of (decoded entries.bytes.now).task } by { Prim.hlevel props },
+}
+
+// What kinds 0 to 5 are told from: a file, the table of its entries, and a task's ends. Nothing is known of them.
+#[derive(Clone, Copy)]
+pub struct Source<'a> {
+    pub bytes: &'a [u8],
+    pub index: &'a Index,
+    pub ends: Ends,
 }
 
 // Items in a body: where the first of them stands, and how many there are.
-#[derive(Clone, Copy)]
+#[derive(Clone, Copy, PartialEq, Eq, Debug)]
 pub struct Span {
     pub at: u32,
     pub count: u16,
@@ -55,7 +94,7 @@ pub enum ActionEntry {
 }
 
 // A state set of kinds 0 to 5, which names no other.
-#[derive(Clone, Copy)]
+#[derive(Clone, Copy, PartialEq, Eq, Debug)]
 pub enum BasicEntry {
     Empty,
     Init,
@@ -94,7 +133,7 @@ pub struct Premises {
 }
 
 // A step: its rule's number, what it says, and its premises. It is clean where its judgement kind is one of 0 to 3 and the entry
-// places that this kind does not use are zero.
+// places that this kind does not use are zero; a flag beside the judgement, since `judgement_at` says of each step what it says.
 #[derive(Clone, Copy)]
 pub struct Step {
     pub rule: u8,
@@ -103,9 +142,19 @@ pub struct Step {
     pub premises: Premises,
 }
 
-// What is replied to a step: it passed, or document 01's refusal number, 8 to 11; the place is the step's number.
-#[derive(Clone, Copy)]
-pub enum StepReply {
-    Passed,
-    Refused(u8),
+// Why a step is refused, by document 01's numbers; the place is the step's number.
+#[derive(Clone, Copy, PartialEq, Eq, Debug)]
+pub enum StepFault {
+    IllFormed = 8,
+    NotDerived = 9,
+    NotPermitted = 10,
+    Untrue = 11,
+}
+
+impl From<StepFault> for u8 {
+    ghost from_gives = { λ fault number. number ≡ number_of fault };
+
+    fn from(fault: StepFault) -> u8 {
+        fault as u8
+    }
 }

@@ -7,7 +7,8 @@ use crate::{ActionEntry, BasicEntry, Judgement, Premises, Span, StateEntry, Step
 use file_numbers::{byte_in, u16_at, u16_in, u64_at};
 use task::Action;
 
-// The numbers of an entry: its kind, where its body starts and how long it is, and the two numbers that start the body.
+// The numbers of an entry: its kind, where its body starts and how long it is, and the two numbers that start the body. The kind is the
+// file's byte: the matches of `state_of` and `actions_of` are what makes an entry of it.
 #[derive(Clone, Copy)]
 pub struct Head {
     pub kind: u8,
@@ -17,33 +18,24 @@ pub struct Head {
     pub second: u16,
 }
 
-// One less than n, and 0 of 0.
-fn less_one(n: u16) -> u16
-    ensures { result ≡ n - 1 }
-{
-    if n == 0 { 0 } else { n - 1 }
-}
-
 // The numbers of the entry at a place. An entry stands before the steps, so that its numbers stand within the file.
 fn head_at(file: &[u8], at: u16) -> Head
     requires { at + 7 ≤ length file.now }
     ensures { result ≡ head_at file.now at }
 {
     let p = at as usize;
-    let len = less_one(u16_in(file, p));
-    let kind = byte_in(file, p + 2);
-    let first = u16_in(file, p + 3);
     let second = u16_in(file, p + 5);
     Head {
-        kind,
+        kind: byte_in(file, p + 2),
         at: at as u32 + 3,
-        len,
-        first,
+        len: u16_in(file, p).saturating_sub(1),
+        first: u16_in(file, p + 3),
         second,
     }
 }
 
 // The items of a body, of `size` bytes each.
+#[tactic(auto, unfolding(crate::specs::Views::span_of))]
 fn span_of(h: Head, size: u16) -> Span
     requires { 0 < size }
     ensures { result ≡ span_of h size }
@@ -55,11 +47,11 @@ fn span_of(h: Head, size: u16) -> Span
 }
 
 // The state set with these numbers.
+#[tactic(auto, using(crate::proofs::TableLaws::state_left), unfolding(crate::specs::Views::state_of, crate::specs::Views::state_table))]
 fn state_of(h: Head) -> StateEntry
     ensures { result ≡ state_of h }
 {
-    let kind = h.kind;
-    match kind {
+    match h.kind {
         1 => StateEntry::Basic(BasicEntry::Init),
         2 => StateEntry::Basic(BasicEntry::Goal),
         3 => StateEntry::Basic(BasicEntry::Explicit(span_of(h, 8))),
@@ -75,11 +67,11 @@ fn state_of(h: Head) -> StateEntry
 }
 
 // The action set with these numbers.
+#[tactic(auto, using(crate::proofs::TableLaws::actions_left), unfolding(crate::specs::Views::actions_of, crate::specs::Views::action_table))]
 fn actions_of(h: Head) -> ActionEntry
     ensures { result ≡ actions_of h }
 {
-    let kind = h.kind;
-    match kind {
+    match h.kind {
         1 => ActionEntry::Listed(span_of(h, 2)),
         2 => ActionEntry::Either(h.first, h.second),
         _ => ActionEntry::All,
@@ -87,6 +79,7 @@ fn actions_of(h: Head) -> ActionEntry
 }
 
 // The state set that stands at a place.
+#[tactic(auto, unfolding(crate::specs::Views::state_entry_at))]
 pub fn state_entry(file: &[u8], at: u16) -> StateEntry
     requires { at + 7 ≤ length file.now }
     ensures { result ≡ state_entry_at file.now at }
@@ -95,6 +88,7 @@ pub fn state_entry(file: &[u8], at: u16) -> StateEntry
 }
 
 // The action set that stands at a place.
+#[tactic(auto, unfolding(crate::specs::Views::action_entry_at))]
 pub fn action_entry(file: &[u8], at: u16) -> ActionEntry
     requires { at + 7 ≤ length file.now }
     ensures { result ≡ action_entry_at file.now at }
@@ -103,6 +97,7 @@ pub fn action_entry(file: &[u8], at: u16) -> ActionEntry
 }
 
 // What a judgement of a kind says of two entries.
+#[tactic(auto, using(crate::proofs::TableLaws::judgement_left), unfolding(crate::specs::Views::judgement_of))]
 fn judgement_of(kind: u8, a: u16, b: u16) -> Judgement
     ensures { result ≡ judgement_of kind a b }
 {
@@ -115,13 +110,13 @@ fn judgement_of(kind: u8, a: u16, b: u16) -> Judgement
 }
 
 // Whether a judgement kind is one of 0 to 3, and the entry places that it does not use are zero.
+#[tactic(auto, using(crate::proofs::TableLaws::clean_left), unfolding(crate::specs::Views::clean_of))]
 fn is_clean(kind: u8, a: u16, b: u16) -> bool
     ensures { result ≡ clean_of kind a b }
 {
     match kind {
         0 => b == 0,
-        1 => true,
-        2 => true,
+        1 | 2 => true,
         3 => (a == 0) & (b == 0),
         _ => false,
     }
@@ -133,7 +128,6 @@ pub fn step_in(file: &[u8], at: u32) -> Step
     ensures { result ≡ step_of (step_read file.now at) }
 {
     let p = at as usize;
-    let rule = byte_in(file, p);
     let kind = byte_in(file, p + 1);
     let left = u16_in(file, p + 2);
     let right = u16_in(file, p + 4);
@@ -142,17 +136,16 @@ pub fn step_in(file: &[u8], at: u32) -> Step
         second: u16_in(file, p + 8),
         third: u16_in(file, p + 10),
     };
-    let judgement = judgement_of(kind, left, right);
-    let clean = is_clean(kind, left, right);
     Step {
-        rule,
-        judgement,
-        clean,
+        rule: byte_in(file, p),
+        judgement: judgement_of(kind, left, right),
+        clean: is_clean(kind, left, right),
         premises,
     }
 }
 
 // What the action of `size` bytes at a place needs off: no fact where it has no mask of them.
+#[tactic(auto, unfolding(crate::specs::Views::off_in))]
 fn off_at(file: &[u8], size: u8, at: u32) -> u64
     ensures { result ≡ off_in file.now size at }
 {
@@ -164,15 +157,17 @@ fn off_at(file: &[u8], size: u8, at: u32) -> u64
 }
 
 // The action of `size` bytes that stands at a place.
+#[tactic(auto, unfolding(crate::specs::Views::action_in))]
 pub fn action_at(file: &[u8], size: u8, at: u32) -> Action
     ensures { result ≡ action_in file.now size at }
 {
     let p = at as usize;
-    let pre = u64_at(file, p);
-    let add = u64_at(file, p + 8);
-    let del = u64_at(file, p + 16);
-    let off = off_at(file, size, at);
-    Action { pre, add, del, off }
+    Action {
+        pre: u64_at(file, p),
+        add: u64_at(file, p + 8),
+        del: u64_at(file, p + 16),
+        off: off_at(file, size, at),
+    }
 }
 
 // The action's number at an index of the body of a listed action set.

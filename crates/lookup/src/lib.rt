@@ -7,15 +7,17 @@ ghost use Rattle.task.specs.Task.{action_at};
 ghost use Rattle.meaning.specs.File.{action_set_at, state_set_at, step_at};
 ghost use Rattle.certificate.specs.Views.{view_of, view_of_actions, actions_in, step_of, judgement_at};
 ghost use Rattle.certificate.specs.Index.{state_place, action_place};
-ghost use Rattle.certificate.specs.Known.{decoded, IsRead, Known, Placed};
+ghost use Rattle.certificate.specs.Known.{decoded, IsRead};
 
 use certificate::views::{action_at, action_entry, state_entry, step_in};
-use certificate::{ActionEntry, Actions, BasicEntry, Index, Judgement, Places, StateEntry, Step};
+use certificate::{
+    ActionEntry, Actions, BasicEntry, Checked, Index, Judgement, Laid, StateEntry, Step,
+};
 use file_numbers::{byte_at, u16_at};
 use task::Action;
 use versions::{action_count_at, action_size};
 
-// The place of a state set; 0 where the number names none.
+// The place of a state set; 0 where the number names none. The two parts of the table have a function each, as their entries do.
 fn state_place(index: &Index, e: u16) -> u16
     ensures { result ≡ state_place index.now e }
 {
@@ -30,27 +32,25 @@ fn action_place(index: &Index, a: u16) -> u16
 }
 
 // The state set with a number; the empty set where the number names none.
-pub fn state_set(file: &[u8], index: &Index, e: u16) -> StateEntry
-    requires { Known file.now index.now }
-    ensures { result ≡ view_of (state_place index.now e) (state_set_at (decoded file.now) e) }
+pub fn state_set(file: &Checked, e: u16) -> StateEntry
+    ensures { result ≡ view_of (state_place file.now.index.now e) (state_set_at (decoded file.now.bytes.now) e) }
 {
-    let place = state_place(index, e);
+    let place = state_place(file.index, e);
     if place == 0 {
         return StateEntry::Basic(BasicEntry::Empty);
     }
-    state_entry(file, place)
+    state_entry(file.bytes, place)
 }
 
 // The action set with a number; all actions where the number names none.
-pub fn action_set(file: &[u8], index: &Index, a: u16) -> ActionEntry
-    requires { Known file.now index.now }
-    ensures { result ≡ view_of_actions (action_place index.now a) (action_set_at (decoded file.now) a) }
+pub fn action_set(file: &Checked, a: u16) -> ActionEntry
+    ensures { result ≡ view_of_actions (action_place file.now.index.now a) (action_set_at (decoded file.now.bytes.now) a) }
 {
-    let place = action_place(index, a);
+    let place = action_place(file.index, a);
     if place == 0 {
         return ActionEntry::All;
     }
-    action_entry(file, place)
+    action_entry(file.bytes, place)
 }
 
 // Where the task's actions stand, how long each is, and how many there are.
@@ -84,22 +84,20 @@ pub fn action(file: &[u8], all: Actions, i: u16) -> Action
 }
 
 // The step with a number.
-pub fn step(file: &[u8], at: Places, k: u16) -> Step
-    requires placed { Placed file.now at }
-    requires k_lt_steps { k < at.steps }
-    ensures { result ≡ step_of (step_at (decoded file.now) k) }
+pub fn step(file: &Laid, k: u16) -> Step
+    requires { k < file.now.at.steps }
+    ensures { result ≡ step_of (step_at (decoded file.now.bytes.now) k) }
 {
-    let p = at.steps_at + 12 * k as u32;
-    step_in(file, p)
+    let p = file.at.steps_at + 12 * k as u32;
+    step_in(file.bytes, p)
 }
 
 // What the step with a number says; that entry 0 is dead where the number names none.
-pub fn judgement(file: &[u8], at: Places, k: u16) -> Judgement
-    requires { Placed file.now at }
-    ensures { result ≡ judgement_at (decoded file.now) k }
+pub fn judgement(file: &Laid, k: u16) -> Judgement
+    ensures { result ≡ judgement_at (decoded file.now.bytes.now) k }
 {
-    if at.steps <= k {
+    if file.at.steps <= k {
         return Judgement::Dead(0);
     }
-    step(file, at, k).judgement
+    step(file, k).judgement
 }

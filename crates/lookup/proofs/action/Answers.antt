@@ -14,8 +14,7 @@ use Rattle.lookup.proofs.action.Goals as goal
 pub returns-then-all-i : goal.returns-then-all-i
 unfolding actions_in
 returns-then-all-i c =
-    let s = c in
-    read_no_action _ s.requires.0 s.args.i (rw s.requires.1 at c.if-all-i.true)
+    read_no_action _ c.requires.0 c.args.i (rw c.requires.1 at c.if-all-i.true)
 
 pub overflow_add-all : goal.overflow_add-all
 unfolding actions_in
@@ -29,6 +28,5 @@ overflow_add-all c =
 pub returns : goal.returns
 unfolding actions_in
 returns c =
-    let s = c in
-    let l = rw s.requires.1 at c.if-all-i.false in
-    c.action_at.ensures ∙ rw s.requires.1 (read_action _ s.requires.0 s.args.i (omega (arith, l)))
+    let l = rw c.requires.1 at c.if-all-i.false in
+    c.action_at.ensures ∙ rw c.requires.1 (read_action _ c.requires.0 c.args.i (omega (arith, l)))

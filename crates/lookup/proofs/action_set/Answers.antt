@@ -6,15 +6,12 @@ use Rattle.lookup.proofs.action_set.Goals as goal
 
 pub returns-then-place-eq0 : goal.returns-then-place-eq0
 returns-then-place-eq0 c =
-    let s = c in
-    known_actions_none _ _ s.requires s.args.a (sym c.action_place-place.ensures ∙ c.if-place-eq0.true)
+    known_actions_none _ _ c.args.file.now.known c.args.a (sym c.action_place-place.ensures ∙ c.if-place-eq0.true)
 
 pub action_entry-requires : goal.action_entry-requires
 action_entry-requires c =
-    let s = c in
-    rw c.action_place-place.ensures (known_actions_room _ _ s.requires s.args.a (λ z. c.if-place-eq0.false (c.action_place-place.ensures ∙ z)))
+    rw c.action_place-place.ensures (known_actions_room _ _ c.args.file.now.known c.args.a (λ z. c.if-place-eq0.false (c.action_place-place.ensures ∙ z)))
 
 pub returns : goal.returns
 returns c =
-    let s = c in
-    c.action_entry.ensures ∙ rw c.action_place-place.ensures (known_actions_here _ _ s.requires s.args.a (λ z. c.if-place-eq0.false (c.action_place-place.ensures ∙ z)))
+    c.action_entry.ensures ∙ rw c.action_place-place.ensures (known_actions_here _ _ c.args.file.now.known c.args.a (λ z. c.if-place-eq0.false (c.action_place-place.ensures ∙ z)))

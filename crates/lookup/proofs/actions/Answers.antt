@@ -14,10 +14,9 @@ overflow_add-result c = let o = places c.byte_at-version.result in record { fits
 
 pub returns : goal.returns
 returns c =
-    let b = c in
-    let v = b.byte_at-version.ensures ∙ read_version _ b.requires in
+    let v = c.byte_at-version.ensures ∙ read_version _ c.requires in
     let p = c.action_count_at-at in
     let at : p.result ≡ action_count_at _ = p.ensures ∙ ap action_count_at v in
     let size = c.action_size.ensures ∙ ap action_size v in
     let n = c.u16_at.ensures ∙ ap (number_at 2 _) at in
-    (λ i. record { at = at i + 2; size = size i; count = n i }) ∙ read_actions _ b.requires
+    (λ i. record { at = at i + 2; size = size i; count = n i }) ∙ read_actions _ c.requires

@@ -6,8 +6,8 @@ use Rattle.certificate.specs.Views.{step_of, judgement_at}
 use Rattle.certificate.proofs.KnownLaws.{placed_no_step}
 use Rattle.lookup.proofs.judgement.Goals as goal
 
-pub returns-then-at-k : goal.returns-then-at-k
-returns-then-at-k c = let s = c in placed_no_step _ _ s.requires s.args.k c.if-at-k.true
+pub returns-then-file-k : goal.returns-then-file-k
+returns-then-file-k c = placed_no_step _ _ c.args.file.now.placed c.args.k c.if-file-k.true
 
 pub returns : goal.returns
 unfolding step_of judgement_at

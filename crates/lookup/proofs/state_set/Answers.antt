@@ -6,15 +6,12 @@ use Rattle.lookup.proofs.state_set.Goals as goal
 
 pub returns-then-place-eq0 : goal.returns-then-place-eq0
 returns-then-place-eq0 c =
-    let s = c in
-    known_state_none _ _ s.requires s.args.e (sym c.state_place-place.ensures ∙ c.if-place-eq0.true)
+    known_state_none _ _ c.args.file.now.known c.args.e (sym c.state_place-place.ensures ∙ c.if-place-eq0.true)
 
 pub state_entry-requires : goal.state_entry-requires
 state_entry-requires c =
-    let s = c in
-    rw c.state_place-place.ensures (known_state_room _ _ s.requires s.args.e (λ z. c.if-place-eq0.false (c.state_place-place.ensures ∙ z)))
+    rw c.state_place-place.ensures (known_state_room _ _ c.args.file.now.known c.args.e (λ z. c.if-place-eq0.false (c.state_place-place.ensures ∙ z)))
 
 pub returns : goal.returns
 returns c =
-    let s = c in
-    c.state_entry.ensures ∙ rw c.state_place-place.ensures (known_state_here _ _ s.requires s.args.e (λ z. c.if-place-eq0.false (c.state_place-place.ensures ∙ z)))
+    c.state_entry.ensures ∙ rw c.state_place-place.ensures (known_state_here _ _ c.args.file.now.known c.args.e (λ z. c.if-place-eq0.false (c.state_place-place.ensures ∙ z)))

@@ -7,15 +7,13 @@ use Rattle.certificate.proofs.KnownLaws.{placed_step, placed_fit}
 use Rattle.lookup.proofs.step.Goals as goal
 
 pub overflow_add-p : goal.overflow_add-p
-overflow_add-p c = let h = placed_fit _ _ c.requires.placed in omega arith
+overflow_add-p c = let h = placed_fit _ _ c.args.file.now.placed in omega arith
 
 pub step_in-requires : goal.step_in-requires
 step_in-requires c =
-    let s = c in
-    let h = placed_fit _ _ s.requires.placed in
-    omega (arith, h.after_steps, s.requires.k_lt_steps)
+    let h = placed_fit _ _ c.args.file.now.placed in
+    omega (arith, h.after_steps, c.requires)
 
 pub returns : goal.returns
 returns c =
-    let s = c in
-    c.step_in.ensures ∙ ap step_of (placed_step _ _ s.requires.placed s.args.k s.requires.k_lt_steps)
+    c.step_in.ensures ∙ ap step_of (placed_step _ _ c.args.file.now.placed c.args.k c.requires)

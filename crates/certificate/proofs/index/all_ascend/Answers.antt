@@ -4,7 +4,6 @@ use mathlib.Core.Path.{subst, sym}
 use Prim.Native.Nat.{◌+◌, ◌*◌, ◌≤◌}
 use lib.ListN.{length}
 use lib.Dec.{T}
-use borrow.Author.Rules.{rules}
 use borrow.Author.Tests.{not-true, not-false}
 use Rattle.task.proofs.Tests.{holds}
 use Rattle.certificate.specs.declared.Span.{Span}
@@ -14,24 +13,17 @@ use Rattle.certificate.proofs.index.all_ascend.Goals as goal
 
 pub ascends-requires : goal.ascends-requires
 ascends-requires c =
-    let s = c in
-    let l = set_inside s.requires c.loop-e.e c.loop-e-test.true in
-    subst (λ (x : Span). x.at + 8 * x.count ≤ length s.args.file.now) (sym c.states_at-x.ensures) l
+    let l = set_inside c.requires c.loop-e.e c.loop-e-test.true in
+    subst (λ (x : Span). x.at + 8 * x.count ≤ length c.args.file.now) (sym c.states_at-x.ensures) l
 
 pub returns-then-not-ascends : goal.returns-then-not-ascends
 returns-then-not-ascends c =
-    let d = c in
-    let s = d in
     let b = c.ascends.result in
-    up_fails s.args.file.now s.args.index.now d.loop-e-test.true d.states_at-x.ensures
+    up_fails c.args.file.now c.args.index.now c.loop-e-test.true c.states_at-x.ensures
     (λ up. subst T {x = b} (not-true b (not_from_false _ c.if-not-ascends.true)) (c.ascends.ensures.1 up))
 
 pub loop-e-preserved : goal.loop-e-preserved
 loop-e-preserved c =
-    let d = c in
-    let s = d in
-    let b = c.ascends.result in (
-      up_more s.args.file.now s.args.index.now d.loop-e.invariant.0 d.states_at-x.ensures
-          (c.ascends.ensures.0 (holds {b = b} (not-false b (not_from_true _ c.if-not-ascends.false)))),
-      search rules,
-    )
+    let b = c.ascends.result in
+    up_more c.args.file.now c.args.index.now c.loop-e.invariant c.states_at-x.ensures
+    (c.ascends.ensures.0 (holds {b = b} (not-false b (not_from_true _ c.if-not-ascends.false))))

@@ -1,11 +1,7 @@
 -- `index::all_ascend` meets its contract. The invariant: the states of the first `e` sets ascend.
 -- Assumes nothing.
-use Prim.Native.Nat.{◌-◌, ◌≤◌}
 use Rattle.certificate.specs.Rows.{AllAscend}
 use Rattle.certificate.proofs.index.all_ascend.Given as goal
 
 abbrev pub invariant-loop-e : goal.invariant-loop-e
-invariant-loop-e l = AllAscend l.file l.index l.e × (l.e ≤ l.count)
-
-abbrev pub decreases-loop-e : goal.decreases-loop-e
-decreases-loop-e l = l.count - l.e
+invariant-loop-e l = AllAscend l.file l.index l.e

@@ -14,17 +14,15 @@ said f e k l r = rw (sym k) (rw (sym l) (rw (sym r) e))
 pub returns : goal.returns
 unfolding step_read step_of
 returns c = λ i.
-    let d = c in
-    let s = d in
-    let bytes = s.args.file.now in
-    let p = s.args.at in
-    let kind = read_in 1 bytes (p + 1) (search rules) d.byte_in-kind.ensures in
-    let left = read_in 2 bytes (p + 2) (search rules) d.u16_in-left.ensures in
-    let right = read_in 2 bytes (p + 4) (search rules) d.u16_in-right.ensures in
+    let bytes = c.args.file.now in
+    let p = c.args.at in
+    let kind = read_in 1 bytes (p + 1) (search rules) c.byte_in-kind.ensures in
+    let left = read_in 2 bytes (p + 2) (search rules) c.u16_in-left.ensures in
+    let right = read_in 2 bytes (p + 4) (search rules) c.u16_in-right.ensures in
     record {
-      rule = read_in 1 bytes p (search rules) d.byte_in-rule.ensures i;
-      judgement = said judgement_of c.judgement_of-judgement.ensures kind left right i;
-      clean = said clean_of c.is_clean-clean.ensures kind left right i;
+      rule = read_in 1 bytes p (search rules) c.byte_in.ensures i;
+      judgement = said judgement_of c.judgement_of.ensures kind left right i;
+      clean = said clean_of c.is_clean.ensures kind left right i;
       premises = record {
         first = read_in 2 bytes (p + 6) (search rules) c.u16_in.ensures i;
         second = read_in 2 bytes (p + 8) (search rules) c.u16_in-2.ensures i;
