@@ -2,25 +2,17 @@
 #![tactic(auto)]
 
 use file_numbers::u64_at;
-use printing::print_answer;
+use input::{read_part, with_file};
+use printing::{STDOUT, print};
 use question::ask;
 
-// The numbers of the process's streams.
-const STDIN_FILENO: i32 = 0;
-
-const STDOUT_FILENO: i32 = 1;
-
-// One byte more than a file may have is enough to tell that it is too long.
 fn main() {
     let mut head = [0u8; 16];
-    let got = io::read_full(STDIN_FILENO, &mut head);
-    if got < 16 {
-        io::write_all(STDOUT_FILENO, b"no question\n");
+    if !read_part(&mut head) {
+        io::write_all(STDOUT, b"no question\n");
         return;
     }
     let entry = u64_at(&head, 0);
     let state = u64_at(&head, 8);
-    let mut file = [0u8; 65537];
-    let n = io::read_full(STDIN_FILENO, &mut file);
-    print_answer(ask(&file[..n], entry, state));
+    with_file(|file| print(STDOUT, ask(file, entry, state)));
 }

@@ -47,6 +47,10 @@ pub number_past : (k : ℕ) (f : List ℕ) (p : ℕ) → length f < p + k → nu
 unfolding number_at
 number_past k f p h = ap (λ (b : Bool). elim b [ true ↦ number k f p | false ↦ 0 ]) (inside_past k f p h)
 
+-- and past the end
+pub read_past : (k : ℕ) (f : List ℕ) (p : ℕ) → length f < p + k → 0 ≡ number_at k f p
+read_past k f p h = sym (number_past k f p h)
+
 -- ---- from its bytes
 
 -- the number before the bytes counts as many times 256 as there are bytes

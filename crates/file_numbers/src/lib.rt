@@ -1,22 +1,10 @@
-// Numbers of the file, big-endian. A number that runs past the end reads as 0, so that no caller owes a bound.
+// Numbers of the file, big-endian. A number that runs past the end reads as 0, so that no caller owes a bound. Each width has its
+// functions, as the numbers of std have: a trait for them would repeat the four bodies in its implementations.
 #![tactic(auto)]
 
-ghost use Rattle.std.specs.Prelude.{◌≡◌, ◌+◌, ◌*◌, ◌≤◌, length};
+ghost use Rattle.std.specs.Prelude.{◌≡◌, ◌+◌, ◌≤◌, ◌<◌, length, MatchBool};
 ghost use Rattle.meaning.specs.Bytes.{number};
 ghost use Rattle.file_numbers.specs.Numbers.{number_at};
-
-// Two or four bytes as a number. Eight are two of four: LLVM makes one load of that.
-fn two(a: u8, b: u8) -> u16
-    ensures { result ≡ a * 256 + b }
-{
-    (a as u16) * 256 + (b as u16)
-}
-
-fn four(a: u8, b: u8, c: u8, d: u8) -> u32
-    ensures { result ≡ a * 16777216 + b * 65536 + c * 256 + d }
-{
-    (a as u32) * 16777216 + (b as u32) * 65536 + (c as u32) * 256 + (d as u32)
-}
 
 // The byte at a place of the file.
 pub fn byte_in(file: &[u8], at: usize) -> u8
@@ -26,19 +14,19 @@ pub fn byte_in(file: &[u8], at: usize) -> u8
     file[at]
 }
 
-// The number in the two, four or eight bytes from a place that has them.
+// The number in the two, four or eight bytes from a place that has them. Eight are two of four: LLVM makes one load of that.
 pub fn u16_in(file: &[u8], at: usize) -> u16
     requires { at + 2 ≤ length file.now }
     ensures { result ≡ number 2 file.now at }
 {
-    two(file[at], file[at + 1])
+    u16::from_be_bytes([file[at], file[at + 1]])
 }
 
 fn u32_in(file: &[u8], at: usize) -> u32
     requires { at + 4 ≤ length file.now }
     ensures { result ≡ number 4 file.now at }
 {
-    four(file[at], file[at + 1], file[at + 2], file[at + 3])
+    u32::from_be_bytes([file[at], file[at + 1], file[at + 2], file[at + 3]])
 }
 
 pub fn u64_in(file: &[u8], at: usize) -> u64
@@ -50,46 +38,55 @@ pub fn u64_in(file: &[u8], at: usize) -> u64
     (high as u64) * 4294967296 + (low as u64)
 }
 
+// Whether `size` bytes from a place are within the file.
+fn reaches(file: &[u8], at: usize, size: usize) -> bool
+    ensures { MatchBool result (at + size ≤ length file.now) (length file.now < at + size) }
+{
+    size <= file.len() && at <= file.len() - size
+}
+
 // The byte at a place.
+#[tactic(auto, using(crate::proofs::ByteLaws::read_in, crate::proofs::ByteLaws::read_past))]
 pub fn byte_at(file: &[u8], at: usize) -> u8
     ensures { result ≡ number_at 1 file.now at }
 {
-    if at < file.len() { file[at] } else { 0 }
+    if reaches(file, at, 1) {
+        byte_in(file, at)
+    } else {
+        0
+    }
 }
 
 // The number in the two, four or eight bytes from a place.
+#[tactic(auto, using(crate::proofs::ByteLaws::read_in, crate::proofs::ByteLaws::read_past))]
 pub fn u16_at(file: &[u8], at: usize) -> u16
     ensures { result ≡ number_at 2 file.now at }
 {
-    if file.len() < 2 {
-        return 0;
+    if reaches(file, at, 2) {
+        u16_in(file, at)
+    } else {
+        0
     }
-    if file.len() - 2 < at {
-        return 0;
-    }
-    u16_in(file, at)
 }
 
+#[tactic(auto, using(crate::proofs::ByteLaws::read_in, crate::proofs::ByteLaws::read_past))]
 pub fn u32_at(file: &[u8], at: usize) -> u32
     ensures { result ≡ number_at 4 file.now at }
 {
-    if file.len() < 4 {
-        return 0;
+    if reaches(file, at, 4) {
+        u32_in(file, at)
+    } else {
+        0
     }
-    if file.len() - 4 < at {
-        return 0;
-    }
-    u32_in(file, at)
 }
 
+#[tactic(auto, using(crate::proofs::ByteLaws::read_in, crate::proofs::ByteLaws::read_past))]
 pub fn u64_at(file: &[u8], at: usize) -> u64
     ensures { result ≡ number_at 8 file.now at }
 {
-    if file.len() < 8 {
-        return 0;
+    if reaches(file, at, 8) {
+        u64_in(file, at)
+    } else {
+        0
     }
-    if file.len() - 8 < at {
-        return 0;
-    }
-    u64_in(file, at)
 }

@@ -1,18 +1,25 @@
-// Reads parts of standard input.
+// Reads standard input.
 #![tactic(auto)]
 
-ghost use Rattle.std.specs.Prelude.{◌≡◌, length};
+ghost use Rattle.std.specs.Prelude.{◌≡◌, ◌≤◌, ℕ, List, length, T};
+ghost use Rattle.std.specs.Fn.{FnOnceReturnsAt};
 
 // The number of standard input.
-const STDIN_FILENO: i32 = 0;
+const STDIN: i32 = 0;
 
-// Reads the next bytes of standard input, as many as asked for where the buffer holds them and none where it does not, and returns how
-// many there were.
-pub fn read_part(buffer: &mut [u8], len: usize) -> usize
+// Fills a buffer with the next bytes of standard input, as far as there are any, and tells whether it is full.
+pub fn read_part(buffer: &mut [u8]) -> bool
     ensures { length buffer.new ≡ length buffer.old }
 {
-    if buffer.len() < len {
-        return 0;
-    }
-    io::read_full(STDIN_FILENO, &mut buffer[..len])
+    io::read_full(STDIN, buffer) == buffer.len()
+}
+
+// What is made of the rest of standard input, as a file: one byte more than a file may have is enough to tell that it is too long.
+pub fn with_file<R, F: FnOnce(&[u8]) -> R>(then: F) -> R
+    requires { F.IsAlwaysCallable then }
+    ensures { (file : List ℕ) × (length file ≤ 65537) × FnOnceReturnsAt F.FnOnce then file result }
+{
+    let mut file = [0u8; 65537];
+    let end = io::read_full(STDIN, &mut file);
+    then(&file[..end])
 }

@@ -3,37 +3,30 @@
 #![tactic(auto)]
 
 use file_numbers::u32_at;
-use input::read_part;
-use printing::print_reply;
+use input::{read_part, with_file};
+use printing::{STDOUT, print};
 use verifier::check_numbered;
 
-// The numbers of the process's streams.
-const STDIN_FILENO: i32 = 0;
-
-const STDOUT_FILENO: i32 = 1;
-
-fn no_list() {
-    io::write_all(STDOUT_FILENO, b"no list\n");
-}
-
-// One byte more than a file may have is enough to tell that it is too long.
-fn main() {
+// Reads a list into a buffer. There is none where the input ends too early, or the list is longer than the buffer.
+fn read_list(buffer: &mut [u8]) -> Option<&[u8]> {
     let mut head = [0u8; 4];
-    if read_part(&mut head, 4) < 4 {
-        no_list();
-        return;
+    if !read_part(&mut head) {
+        return None;
     }
     let count = u32_at(&head, 0) as usize;
-    if 65536 < count {
-        no_list();
-        return;
+    if buffer.len() < count {
+        return None;
     }
-    let mut numbers = [0u8; 65536];
-    if read_part(&mut numbers, count) < count {
-        no_list();
-        return;
+    let list = &mut buffer[..count];
+    if read_part(list) { Some(list) } else { None }
+}
+
+fn main() {
+    let mut buffer = [0u8; 65536];
+    match read_list(&mut buffer) {
+        Some(numbers) => with_file(|file| print(STDOUT, check_numbered(file, numbers))),
+        None => {
+            io::write_all(STDOUT, b"no list\n");
+        }
     }
-    let mut file = [0u8; 65537];
-    let n = io::read_full(STDIN_FILENO, &mut file);
-    print_reply(check_numbered(&file[..n], &numbers[..count]));
 }

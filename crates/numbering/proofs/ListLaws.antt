@@ -17,11 +17,8 @@ use Rattle.task.specs.Reach.{member}
 use Rattle.task.proofs.Tests.{not_of, holds, same, is_true, is_false, or_cases, or_left, or_right}
 use Rattle.meaning.specs.Result.{Result, refuse, found, ◌>>=◌, need}
 use Rattle.meaning.specs.Numbering.{check_unused, check_numbers, rule_from, rule_meant}
-use Rattle.meaning.proofs.Results.{no_found}
-use Rattle.meaning.proofs.Refusals.{list_number}
 use Rattle.meaning.proofs.Numbering.{lacked, listed_from, rule_at_lem, rule_before}
-use Rattle.numbering.specs.declared.ListReply.TheVariants.{Lawful, Refused}
-use Rattle.numbering.specs.Table.{Stands, list_reply}
+use Rattle.numbering.specs.Table.{Stands}
 
 -- the table has the rules of the first k bytes, and what is left to check says what all of them say
 pub record Tabled (numbers : List ℕ) (k : ℕ) (rules : List ℕ) : Type 0 where
@@ -137,44 +134,11 @@ module _ (numbers : List ℕ) where
   pub whole_table : (k : ℕ) (rules : List ℕ) → Tabled numbers k rules → length numbers ≡ 28 → 28 ≤ k → Stands rules (rule_meant numbers)
   whole_table k rules h e l = subst (λ (xs : List ℕ). Stands rules (rule_meant xs)) (take_all k numbers (omega arith)) h.each
 
--- what is told of a list, and what is known of its table
-module _ (numbers : List ℕ) where
-  pub told_refused : {X : Type 0} (p : ℕ) → check_numbers numbers ≡ refuse 18 p
-      → (Refused p ≡ list_reply (check_numbers numbers)) × (check_numbers numbers ≡ found tt → X)
-  unfolding list_reply
-  told_refused p e = (ap list_reply (sym e), λ f. no_found 18 p tt (sym e ∙ f))
-
-  pub told_fault : {X : Type 0} (k : ℕ) (rules : List ℕ) → length numbers ≡ 28 → k < 28 → Tabled numbers k rules → get_or numbers k 0 < 256
-      → (eqb (get_or numbers k 0) 0 || ltb 0 (get_or rules (get_or numbers k 0) 0)) ≡ true
-      → (Refused k ≡ list_reply (check_numbers numbers)) × (check_numbers numbers ≡ found tt → X)
-  told_fault k rules e l h b t =
+  pub faulty : (k : ℕ) (rules : List ℕ) → length numbers ≡ 28 → k < 28 → Tabled numbers k rules → get_or numbers k 0 < 256
+      → (eqb (get_or numbers k 0) 0 || ltb 0 (get_or rules (get_or numbers k 0) 0)) ≡ true → check_numbers numbers ≡ refuse 18 k
+  faulty k rules e l h b t =
       let i : k < length numbers = omega arith in
-      told_refused k (by_bytes numbers e ∙ fault numbers k rules h i b t)
-
-  pub told_lawful : (k : ℕ) (rules : List ℕ) → length numbers ≡ 28 → 28 ≤ k → Tabled numbers k rules
-      → (Lawful ≡ list_reply (check_numbers numbers)) × (check_numbers numbers ≡ found tt → Stands rules (rule_meant numbers))
-  unfolding list_reply
-  told_lawful k rules e l h =
-      (ap list_reply (sym (all_passed numbers k rules h e l)), λ _. whole_table numbers k rules h e l)
-
--- ---- for callers: the list's check from what is told of it
-
-module _ (numbers : List ℕ) where
-  pub list_refused : (p : ℕ) → Refused p ≡ list_reply (check_numbers numbers) → check_numbers numbers ≡ refuse 18 p
-  unfolding list_reply
-  list_refused p e = go (check_numbers numbers) refl e
-    where
-      go : (x : Result (Unit {0})) → check_numbers numbers ≡ x → Refused p ≡ list_reply x → check_numbers numbers ≡ refuse 18 p
-      go (refuse r q) h d = let z : q ≡ p = cc in h ∙ ap (λ (n : ℕ). refuse n q) (list_number numbers r q h) ∙ ap (refuse 18) z
-      go (found u) h d = let z : ◌≡◌ {A = ℕ} 0 1 = cc in absurd (omega arith)
-
-  pub list_lawful : Lawful ≡ list_reply (check_numbers numbers) → check_numbers numbers ≡ found tt
-  unfolding list_reply
-  list_lawful e = go (check_numbers numbers) refl e
-    where
-      go : (x : Result (Unit {0})) → check_numbers numbers ≡ x → Lawful ≡ list_reply x → check_numbers numbers ≡ found tt
-      go (refuse r q) h d = let z : ◌≡◌ {A = ℕ} 0 1 = cc in absurd (omega arith)
-      go (found tt) h d = h
+      by_bytes e ∙ fault numbers k rules h i b t
 
 -- ---- document 01's own numbers
 

@@ -1,21 +1,9 @@
--- How many digits a number has at most, and the lines of a refusal and of a round that goes on by their parts.
+-- The lines of a refusal and of a round that goes on by their parts.
 -- Assumes nothing.
 use mathlib.Core.Path.{◌≡◌, ap, ◌∙◌}
 use mathlib.Core.List.{List, [], ◌∷◌, ◌++◌}
-use Prim.Native.Nat.{ℕ, ◌-◌, ◌^◌, ◌≤◌, ◌<◌}
-use native.Mathlib.Nat.{pow-le-pow_right, le_trans, lt_of_not-le}
-use native.Mathlib.Omega.{arith}
-use Rattle.io.specs.Digits.{IsDigitCount}
+use Prim.Native.Nat.{ℕ}
 use Rattle.printing.specs.Lines.{refused, go_on_from, Numeral, RefusedLine, GoOnLine}
-
--- a number of 64 bits has at most 20 digits
-pub at_most_twenty : (n k : ℕ) → n < 2 ^ 64 → IsDigitCount 10 1 n k → k ≤ 20
-at_most_twenty n k small fewest =
-    let below = lt_of_not-le {n = 21} {m = k}
-    (λ (h : 21 ≤ k).
-    let e = le_trans (pow-le-pow_right {n = 10} (omega arith) {i = 20} {j = k - 1} (omega (arith, h))) (fewest.2 (omega (arith, h))) in
-    omega (arith, e, small)) in
-    omega (arith, below)
 
 -- what five puts leave, one after the other
 pub refused_by_parts : (number place : ℕ) (word first space second end : List ℕ) → word ≡ refused

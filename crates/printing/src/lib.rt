@@ -1,4 +1,5 @@
 // Prints replies, rounds and answers, one line each. What the line is, is proved; that it arrives, no contract can say.
+// Not by `Display`: `println!` would ask for a handle, and what it writes is no part of its contract.
 #![tactic(auto)]
 
 ghost use Rattle.std.specs.Prelude.{◌≡◌, List, ◌++◌, ℕ, ◌+◌, ◌≤◌, length, take};
@@ -7,8 +8,21 @@ ghost use Rattle.printing.specs.Lines.{Numeral, RefusedLine, ReplyLine, GoOnLine
 
 use meaning::{Answer, Reply, Round};
 
-// The number of standard output.
-const STDOUT_FILENO: i32 = 1;
+// The numbers of standard output and standard error.
+pub const STDOUT: i32 = 1;
+
+pub const STDERR: i32 = 2;
+
+// What is said in one line.
+pub trait Line {
+    // A text is its line.
+    ghost is_line: { Self → List ℕ → Type 0 };
+    // Puts its line into a buffer, and returns where it ends.
+    fn put_line(self, line: &mut [u8]) -> usize
+        requires { 50 ≤ length line.old }
+        ensures prefix_len { IsPrefixLen result line.new }
+        ensures is_line { is_line self (take result line.new) };
+}
 
 // Puts a text into a line, and returns where it ends.
 fn put(line: &mut [u8], at: usize, text: &[u8]) -> usize
@@ -17,13 +31,8 @@ fn put(line: &mut [u8], at: usize, text: &[u8]) -> usize
     ensures value { result ≡ at + length text.now }
     ensures line_after { take result line.new ≡ take at line.old ++ text.now }
 {
-    let mut i = 0;
-    let mut end = at;
-    while i < text.len() {
-        line[end] = text[i];
-        end += 1;
-        i += 1;
-    }
+    let end = at + text.len();
+    line[at..end].copy_from_slice(text);
     end
 }
 
@@ -44,24 +53,11 @@ fn refused_line(number: u8, place: u64, line: &mut [u8]) -> usize
     ensures prefix_len { IsPrefixLen result line.new }
     ensures refused_line { RefusedLine number place (take result line.new) }
 {
-    let number = number as u64;
     let word = put(line, 0, b"refused ");
-    let first = put_number(line, word, number);
+    let first = put_number(line, word, number as u64);
     let space = put(line, first, b" ");
     let second = put_number(line, space, place);
     put(line, second, b"\n")
-}
-
-// A reply's line, and its length.
-fn reply_line(reply: Reply, line: &mut [u8]) -> usize
-    requires { 50 ≤ length line.old }
-    ensures prefix_len { IsPrefixLen result line.new }
-    ensures reply_line { ReplyLine reply (take result line.new) }
-{
-    match reply {
-        Reply::Accepted => put(line, 0, b"accepted\n"),
-        Reply::Refused { number, place } => refused_line(number, place, line),
-    }
 }
 
 fn go_on_line(step: u64, line: &mut [u8]) -> usize
@@ -74,47 +70,47 @@ fn go_on_line(step: u64, line: &mut [u8]) -> usize
     put(line, number, b"\n")
 }
 
-// A round's line, and its length.
-fn round_line(round: Round, line: &mut [u8]) -> usize
-    requires { 50 ≤ length line.old }
-    ensures prefix_len { IsPrefixLen result line.new }
-    ensures round_line { RoundLine round (take result line.new) }
-{
-    match round {
-        Round::Ended => put(line, 0, b"ended\n"),
-        Round::GoOn(step) => go_on_line(step, line),
-        Round::Refused { number, place } => refused_line(number, place, line),
+impl Line for Reply {
+    ghost is_line = { ReplyLine };
+
+    #[tactic(auto, unfolding(crate::specs::Lines::ReplyLine, crate::specs::Lines::accepted))]
+    fn put_line(self, line: &mut [u8]) -> usize {
+        match self {
+            Reply::Accepted => put(line, 0, b"accepted\n"),
+            Reply::Refused { number, place } => refused_line(number, place, line),
+        }
     }
 }
 
-// An answer's line, and its length.
-fn answer_line(answer: Answer, line: &mut [u8]) -> usize
-    requires { 50 ≤ length line.old }
-    ensures prefix_len { IsPrefixLen result line.new }
-    ensures answer_line { AnswerLine answer (take result line.new) }
-{
-    match answer {
-        Answer::In => put(line, 0, b"in\n"),
-        Answer::Out => put(line, 0, b"out\n"),
-        Answer::Refused { number, place } => refused_line(number, place as u64, line),
+impl Line for Round {
+    ghost is_line = { RoundLine };
+
+    #[tactic(auto, unfolding(crate::specs::Lines::RoundLine, crate::specs::Lines::ended))]
+    fn put_line(self, line: &mut [u8]) -> usize {
+        match self {
+            Round::Ended => put(line, 0, b"ended\n"),
+            Round::GoOn(step) => go_on_line(step, line),
+            Round::Refused { number, place } => refused_line(number, place, line),
+        }
     }
 }
 
-pub fn print_reply(reply: Reply) {
-    let mut line = [0u8; 50];
-    let n = reply_line(reply, &mut line);
-    io::write_all(STDOUT_FILENO, &line[..n]);
+impl Line for Answer {
+    ghost is_line = { AnswerLine };
+
+    #[tactic(auto, unfolding(crate::specs::Lines::AnswerLine, crate::specs::Lines::in_text, crate::specs::Lines::out_text))]
+    fn put_line(self, line: &mut [u8]) -> usize {
+        match self {
+            Answer::In => put(line, 0, b"in\n"),
+            Answer::Out => put(line, 0, b"out\n"),
+            Answer::Refused { number, place } => refused_line(number, place as u64, line),
+        }
+    }
 }
 
-// To standard output or standard error.
-pub fn print_round(to: i32, round: Round) {
+// Prints what is said to standard output or standard error.
+pub fn print<L: Line>(to: i32, said: L) {
     let mut line = [0u8; 50];
-    let n = round_line(round, &mut line);
-    io::write_all(to, &line[..n]);
-}
-
-pub fn print_answer(answer: Answer) {
-    let mut line = [0u8; 50];
-    let n = answer_line(answer, &mut line);
-    io::write_all(STDOUT_FILENO, &line[..n]);
+    let end = said.put_line(&mut line);
+    io::write_all(to, &line[..end]);
 }

@@ -8,7 +8,7 @@ ghost use Rattle.task.specs.Inner.{at_init, few_unknown, at_goal};
 
 // An action: the facts it needs on, those it adds, those it deletes, and those it needs off.
 // Document 01 calls it an event, with needs, sets and clears, and document 02 adds needs-off.
-#[derive(Clone, Copy)]
+#[derive(Clone, Copy, PartialEq, Eq, Debug)]
 pub struct Action {
     pub pre: u64,
     pub add: u64,
@@ -19,7 +19,7 @@ pub struct Action {
 // The task's ends: over so many facts, an initial state, the facts that may be on or off there, and the goal's masks: facts that are on
 // in a goal state, and facts that are off. Document 01 calls them the start and the forbidden mask; the unknown mask between them and the
 // forbidden-off mask are document 02's.
-#[derive(Clone, Copy)]
+#[derive(Clone, Copy, PartialEq, Eq, Debug)]
 pub struct Ends {
     pub facts: u8,
     pub init: u64,
@@ -29,6 +29,7 @@ pub struct Ends {
 }
 
 // Whether every fact of a mask is on in a state.
+#[tactic(auto, unfolding(crate::specs::Facts::all_on))]
 pub fn all_on(mask: u64, state: u64) -> bool
     ensures { result ≡ all_on mask state }
 {
@@ -36,6 +37,7 @@ pub fn all_on(mask: u64, state: u64) -> bool
 }
 
 // Whether every fact of the one mask is on in a state, and every fact of the other off.
+#[tactic(auto, unfolding(crate::specs::Facts::all_off))]
 fn is_as_told(on: u64, off: u64, state: u64) -> bool
     ensures { result ≡ (all_on on state && all_off off state) }
 {
@@ -53,10 +55,11 @@ pub fn is_init(ends: Ends, state: u64) -> bool
 pub fn few_unknown(ends: Ends) -> bool
     ensures { result ≡ few_unknown ends }
 {
-    u64::count_ones(ends.unknown) <= 12
+    ends.unknown.count_ones() <= 12
 }
 
 // Whether a state is one of the goal's.
+#[tactic(auto, unfolding(crate::specs::Inner::at_goal))]
 pub fn is_goal(ends: Ends, state: u64) -> bool
     ensures { result ≡ at_goal ends state }
 {
@@ -67,14 +70,11 @@ pub fn is_goal(ends: Ends, state: u64) -> bool
 pub fn all_facts(n: u8) -> u64
     ensures { result ≡ 2 ^ min n 64 - 1 }
 {
-    if n < 64 {
-        (1u64 << n) - 1
-    } else {
-        18446744073709551615
-    }
+    if n < 64 { (1u64 << n) - 1 } else { u64::MAX }
 }
 
 // Whether an action may happen in a state: what it needs on is on there, and what it needs off is off.
+#[tactic(auto, unfolding(crate::specs::Task::applies))]
 pub fn applies(a: Action, state: u64) -> bool
     ensures { result ≡ applies a state }
 {

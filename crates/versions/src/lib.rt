@@ -1,5 +1,6 @@
 // The places in a file that depend on its version: from version 2 on the unknown facts stand between the start and the goal's mask, and in
-// version 3 a mask of facts that are off stands behind the goal's mask and at the end of each action.
+// version 3 a mask of facts that are off stands behind the goal's mask and at the end of each action. A version is the file's byte, as the
+// definitions of places take it.
 #![tactic(auto)]
 
 ghost use Rattle.std.specs.Prelude.{◌≡◌, ◌+◌, not, eqb};

@@ -1,13 +1,9 @@
 -- `numbering_of` meets its contract. The loop's invariant: the table has the rules of the first k bytes, none of which is a fault.
 -- Assumes nothing.
 use mathlib.Core.Path.{◌≡◌}
-use Prim.Native.Nat.{◌-◌, ◌≤◌}
 use lib.ListN.{length}
 use Rattle.numbering.proofs.ListLaws.{Tabled}
 use Rattle.numbering.proofs.numbering_of.Given as goal
 
 abbrev pub invariant-loop-k : goal.invariant-loop-k
-invariant-loop-k l = (l.k ≤ 28) × (length l.rules ≡ 256) × Tabled l.numbers l.k l.rules
-
-abbrev pub decreases-loop-k : goal.decreases-loop-k
-decreases-loop-k l = 28 - l.k
+invariant-loop-k l = (length l.rules ≡ 256) × Tabled l.numbers l.k l.rules

@@ -7,8 +7,4 @@ use Rattle.printing.proofs.go_on_line.Goals as goal
 pub returns-clause-go_on_line : goal.returns-clause-go_on_line
 unfolding go_on_from
 returns-clause-go_on_line c =
-    let end = c in
-    let number = end in
-    let words = number in
-    go_on_by_parts words.args.step _ _ _ words.put-words.ensures.line_after
-    number.put_number-number.ensures.by_index end.put.ensures.line_after
+    go_on_by_parts c.args.step _ _ _ c.put-words.ensures.line_after c.put_number-number.ensures.by_index c.put.ensures.line_after

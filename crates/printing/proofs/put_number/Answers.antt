@@ -11,9 +11,7 @@ use Rattle.printing.proofs.put_number.Goals as goal
 pub returns-clause-by_index : goal.returns-clause-by_index
 unfolding Numeral
 returns-clause-by_index c =
-    let d = c.decimal-k in
-    let args = c.args in
-    let fits = c.ranges.n.fits in (
-      last_digits 10 d.result args.n,
-      ((d.result, (d.ensures.len, refl)), c.put.ensures.line_after ∙ ap (λ (t : List ℕ). take args.at args.line.now ++ t) d.ensures.digits),
+    let d = c.decimal-k in (
+      last_digits 10 d.result c.args.n,
+      ((d.result, (d.ensures.len, refl)), c.put.ensures.line_after ∙ ap (λ (t : List ℕ). take c.args.at c.args.line.now ++ t) d.ensures.digits),
     )

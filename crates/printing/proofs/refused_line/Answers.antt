@@ -7,11 +7,5 @@ use Rattle.printing.proofs.refused_line.Goals as goal
 pub returns-clause-refused_line : goal.returns-clause-refused_line
 unfolding refused
 returns-clause-refused_line c =
-    let end = c in
-    let second = end in
-    let space = second in
-    let first = space in
-    let word = first in
-    let args = word.args in
-    refused_by_parts args.number args.place _ _ _ _ _ word.put-word.ensures.line_after first.put_number-first.ensures.by_index
-    space.put-space.ensures.line_after second.put_number-second.ensures.by_index end.put.ensures.line_after
+    refused_by_parts c.args.number c.args.place _ _ _ _ _ c.put-word.ensures.line_after c.put_number-first.ensures.by_index
+    c.put-space.ensures.line_after c.put_number-second.ensures.by_index c.put.ensures.line_after
