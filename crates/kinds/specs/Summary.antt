@@ -1,13 +1,14 @@
--- What the kinds of a statement's leaves say, as they stand in two arrays: whether they are permitted, and which leaf is the anchor.
+-- What the kinds of a statement's leaves say, as they stand in two lists: whether they are permitted, and which leaf is the anchor.
 -- Only the code's inner promises speak of this.
 -- Assumes nothing.
-use Rattle.std.specs.Prelude.{◌≡◌, ℕ, ◌≤◌, ◌<◌, Bool, true, false, not, ◌&&◌, ◌||◌, List, T, eqb, leb, ltb}
-use Rattle.meaning.specs.Sets.{some_below}
+use Rattle.std.specs.Prelude.{◌≡◌, ℕ, ◌≤◌, ◌<◌, Bool, true, false, not, ◌&&◌, ◌||◌, List, length, T, eqb, leb}
+use Rattle.std.specs.Prelude.{Option, Some, MatchOption, IfSome, is_some}
+use Rattle.std.specs.List.{list_any}
+use Rattle.leaves.specs.declared.Leaf.{Leaf}
 use Rattle.certificate.specs.declared.BasicEntry.{BasicEntry}
 use Rattle.certificate.specs.declared.BasicEntry.TheVariants.{Empty, Init, Goal, Explicit, Horn, TwoCnf}
 use Rattle.leaves.specs.Leaves.{kind_of, leaf_in}
 use Rattle.kinds.specs.declared.Gathered.{Gathered}
-use Rattle.kinds.specs.declared.Counts.{Counts}
 use Rattle.kinds.specs.declared.Flags.{Flags}
 
 -- sets whose states are listed: none, the initial states where they are few, an explicit list
@@ -21,33 +22,40 @@ may_anchor few (TwoCnf s) = false
 
 -- ---- the kinds that stand in the arrays
 
--- some of the first n leaves is of kind k
-unfoldable pub kind_in : List ℕ → ℕ → ℕ → Bool
-kind_in xs n k = some_below n (λ j. eqb (kind_of (leaf_in xs j).set) k)
+-- some of the leaves is of kind k
+unfoldable pub kind_in : List Leaf → ℕ → Bool
+kind_in xs k = list_any (λ x. eqb (kind_of x.set) k) xs
 
-unfoldable pub flags_in : List ℕ → ℕ → List ℕ → ℕ → Flags
-flags_in left m right n = record {
-  l3 = kind_in left m 3;
-  l4 = kind_in left m 4;
-  l5 = kind_in left m 5;
-  r3 = kind_in right n 3;
-  r4 = kind_in right n 4;
-  r5 = kind_in right n 5;
+unfoldable pub flags_in : List Leaf → List Leaf → Flags
+flags_in left right = record {
+  l3 = kind_in left 3;
+  l4 = kind_in left 4;
+  l5 = kind_in left 5;
+  r3 = kind_in right 3;
+  r4 = kind_in right 4;
+  r5 = kind_in right 5;
 }
 
--- the first of the leaves from a number up to another whose states are listed
-pub record Anchor (few : Bool) (left : List ℕ) (from to r : ℕ) : Type 0 where
+-- no states are listed of the leaves from a number up to another
+abbrev pub NoAnchor : Bool → List Leaf → ℕ → ℕ → Type 0
+NoAnchor few left from to = (j : ℕ) → from ≤ j → j < to → T (may_anchor few (leaf_in left j).set) → ⊥
+
+-- the first of them whose states are
+pub record Anchor (few : Bool) (left : List Leaf) (from to r : ℕ) : Type 0 where
   pub after : from ≤ r
-  pub within : r ≤ to
-  pub here : r < to → T (may_anchor few (leaf_in left r).set)
-  pub first : (j : ℕ) → from ≤ j → j < r → T (may_anchor few (leaf_in left j).set) → ⊥
+  pub within : r < to
+  pub here : T (may_anchor few (leaf_in left r).set)
+  pub first : NoAnchor few left from r
+
+abbrev pub Sought : Bool → List Leaf → ℕ → ℕ → Option ℕ → Type 0
+Sought few left from to r = MatchOption r (NoAnchor few left from to) (λ j. Anchor few left from to j)
 
 -- rule 2 has its anchor inside the bracket, the others outside
-unfoldable pub from_of : ℕ → Counts → ℕ
-from_of rule n = elim (eqb rule 2) [ true ↦ n.outside | false ↦ 0 ]
+unfoldable pub from_of : ℕ → ℕ → ℕ
+from_of rule outside = elim (eqb rule 2) [ true ↦ outside | false ↦ 0 ]
 
-unfoldable pub to_of : ℕ → Counts → ℕ
-to_of rule n = elim (eqb rule 2) [ true ↦ n.left | false ↦ n.outside ]
+unfoldable pub to_of : ℕ → ℕ → ℕ → ℕ
+to_of rule outside all = elim (eqb rule 2) [ true ↦ all | false ↦ outside ]
 
 module _ (x : Flags) where
   unfoldable pub clauses_by : ℕ → Bool
@@ -64,11 +72,17 @@ module _ (x : Flags) where
 unfoldable pub permits_by : ℕ → Flags → ℕ → Bool → Bool
 permits_by rule x n anchored = elim (eqb rule 4) [ true ↦ pair_by x | false ↦ clauses_by x n || states_by x anchored ]
 
-pub record Summary (few : Bool) (rule : ℕ) (left right : List ℕ) (n : Counts) (actions : ℕ) (r : Gathered) : Type 0 where
-  pub left_count_is : r.left_count ≡ n.left
-  pub right_count_is : r.right_count ≡ n.right
+-- what is told of a permitted statement
+pub record Told (left right : List Leaf) (anchor : Option ℕ) (actions : ℕ) (r : Gathered) : Type 0 where
+  pub left_count_is : r.left_count ≡ length left
+  pub right_count_is : r.right_count ≡ length right
   pub action_set : r.actions ≡ actions
-  pub listed : r.listed ≡ kind_in left n.left 3 || kind_in right n.right 3
-  pub two : r.two ≡ kind_in left n.left 5
-  pub anchor : Anchor few left (from_of rule n) (to_of rule n) r.anchor
-  pub permits : r.permitted ≡ permits_by rule (flags_in left n.left right n.right) n.right (ltb r.anchor (to_of rule n))
+  pub listed : r.listed ≡ kind_in left 3 || kind_in right 3
+  pub two : r.two ≡ kind_in left 5
+  pub anchor_is : (j : ℕ) → anchor ≡ Some j → r.anchor ≡ j
+
+pub record Summary (few : Bool) (rule : ℕ) (left : List Leaf) (outside : ℕ) (right : List Leaf) (actions : ℕ) (r : Option Gathered) : Type 0 where
+  pub anchor : Option ℕ
+  pub sought : Sought few left (from_of rule outside) (to_of rule outside (length left)) anchor
+  pub permits : is_some r ≡ permits_by rule (flags_in left right) (length right) (is_some anchor)
+  pub told : IfSome r (λ g. Told left right anchor actions g)

@@ -2,38 +2,28 @@
 #![tactic(auto)]
 
 ghost use Rattle.std.specs.Prelude.{◌≡◌, ◌≤◌, length};
-ghost use Rattle.kinds.specs.Summary.{may_anchor};
-ghost use Rattle.kinds.specs.Summary.{kind_in, flags_in, Anchor, from_of, to_of, permits_by, Summary};
+ghost use Rattle.kinds.specs.Summary.{may_anchor, kind_in, flags_in, Sought, from_of, to_of, permits_by, Summary};
 
 use certificate::BasicEntry;
-use leaves::{kind_of, leaf_at};
+use leaves::{Leaf, kind_of};
 
-// What is known of a statement once its leaves stand in the two arrays.
-#[derive(Clone, Copy)]
+// What is known of a permitted statement once its leaves stand in the two arrays.
+#[derive(Clone, Copy, PartialEq, Eq, Debug)]
 pub struct Gathered {
-    pub permitted: bool,
     // Some leaf is explicit; else all are of clauses.
     pub listed: bool,
     // A left leaf is two-literal.
     pub two: bool,
-    pub left_count: u32,
-    pub right_count: u32,
-    // The left leaf whose states are tried, where one is explicit.
-    pub anchor: u32,
-    // The action set of rules 2 and 3.
+    pub left_count: usize,
+    pub right_count: usize,
+    // The left leaf whose states are tried, where some leaf is explicit; else 0, not read. An Option would only say `listed` again.
+    pub anchor: usize,
+    // The action set of rules 2 and 3; else 0, not read. An Option would only say the rule again.
     pub actions: u16,
 }
 
-// How many leaves the arrays hold: on the left outside the bracket, on the left, on the right.
-#[derive(Clone, Copy)]
-pub struct Counts {
-    pub outside: u32,
-    pub left: u32,
-    pub right: u32,
-}
-
 // Whether leaves of kinds 3, 4 and 5 stand on the left and on the right.
-#[derive(Clone, Copy)]
+#[derive(Clone, Copy, PartialEq, Eq, Debug)]
 pub struct Flags {
     pub l3: bool,
     pub l4: bool,
@@ -43,39 +33,23 @@ pub struct Flags {
     pub r5: bool,
 }
 
-// Whether some of the first n leaves is of kind k.
-fn kind_in(xs: &[u64], n: u32, k: u8) -> bool
-    requires { n ≤ length xs.now }
-    ensures { result ≡ kind_in xs.now n k }
+// Whether some leaf is of kind k, by the number that the file gives the kind: one function for the three that are asked.
+fn kind_in(xs: &[Leaf], k: u8) -> bool
+    ensures { result ≡ kind_in xs.now k }
 {
-    let mut found = false;
-    let mut j = 0u32;
-    while j < n {
-        let set = leaf_at(xs, j as usize).set;
-        found = found | (kind_of(set) == k);
-        j += 1;
-    }
-    found
+    xs.iter().any(|x| kind_of(x.set) == k)
 }
 
-fn flags_in(left: &[u64; 24], right: &[u64; 16], n: Counts) -> Flags
-    requires left_bound { n.left ≤ 24 }
-    requires right_bound { n.right ≤ 16 }
-    ensures { result ≡ flags_in left.now n.left right.now n.right }
+fn flags_in(left: &[Leaf], right: &[Leaf]) -> Flags
+    ensures { result ≡ flags_in left.now right.now }
 {
-    let l3 = kind_in(left, n.left, 3);
-    let l4 = kind_in(left, n.left, 4);
-    let l5 = kind_in(left, n.left, 5);
-    let r3 = kind_in(right, n.right, 3);
-    let r4 = kind_in(right, n.right, 4);
-    let r5 = kind_in(right, n.right, 5);
     Flags {
-        l3,
-        l4,
-        l5,
-        r3,
-        r4,
-        r5,
+        l3: kind_in(left, 3),
+        l4: kind_in(left, 4),
+        l5: kind_in(left, 5),
+        r3: kind_in(right, 3),
+        r4: kind_in(right, 4),
+        r5: kind_in(right, 5),
     }
 }
 
@@ -84,55 +58,40 @@ fn may_anchor(few: bool, x: BasicEntry) -> bool
     ensures { result ≡ may_anchor few x }
 {
     match x {
-        BasicEntry::Empty => true,
+        BasicEntry::Empty | BasicEntry::Explicit(_) => true,
         BasicEntry::Init => few,
-        BasicEntry::Goal => false,
-        BasicEntry::Explicit(_) => true,
-        BasicEntry::Horn(_) => false,
-        BasicEntry::TwoCnf(_) => false,
+        BasicEntry::Goal | BasicEntry::Horn(_) | BasicEntry::TwoCnf(_) => false,
     }
 }
 
-// The first of the leaves from a number up to another whose states are listed; the other number where none is.
-fn anchor_in(few: bool, left: &[u64; 24], from: u32, to: u32) -> u32
-    requires from_le_to { from ≤ to }
-    requires to_bound { to ≤ 24 }
-    ensures { Anchor few left.now from to result }
+// The first of the leaves from a number up to another whose states are listed.
+fn anchor_in(few: bool, left: &[Leaf], from: usize, to: usize) -> Option<usize>
+    requires { to ≤ length left.now }
+    ensures { Sought few left.now from to result }
 {
-    let mut j = from;
-    while j < to {
-        let set = leaf_at(left, j as usize).set;
-        if may_anchor(few, set) {
-            return j;
+    for j in from..to {
+        if may_anchor(few, left[j].set) {
+            return Some(j);
         }
-        j += 1;
     }
-    j
-}
-
-// The leaves that may be the anchor end here.
-fn anchors_end(rule: u8, n: Counts) -> u32
-    ensures { result ≡ to_of rule n }
-{
-    if rule == 2 { n.left } else { n.outside }
+    None
 }
 
 // Rule 2 has its anchor inside the bracket, the others outside.
-fn find_anchor(few: bool, rule: u8, left: &[u64; 24], n: Counts) -> u32
-    requires outside_le_left { n.outside ≤ n.left }
-    requires left_bound { n.left ≤ 24 }
-    ensures { Anchor few left.now (from_of rule n) (to_of rule n) result }
+fn find_anchor(few: bool, rule: u8, left: &[Leaf], outside: usize) -> Option<usize>
+    requires { outside ≤ length left.now }
+    ensures { Sought few left.now (from_of rule outside) (to_of rule outside (length left.now)) result }
 {
     if rule == 2 {
-        anchor_in(few, left, n.outside, n.left)
+        anchor_in(few, left, outside, left.len())
     } else {
-        anchor_in(few, left, 0, n.outside)
+        anchor_in(few, left, 0, outside)
     }
 }
 
 // Whether the kinds are permitted: all of clauses with at most two right leaves, or listed states with an anchor; for rule 4
 // two of the three sorts, the listed states on the left, or clauses that do not both stand on the left.
-fn permits(rule: u8, x: Flags, right: u32, anchored: bool) -> bool
+fn permits(rule: u8, x: Flags, right: usize, anchored: bool) -> bool
     ensures { result ≡ permits_by rule x right anchored }
 {
     let h3 = x.l3 | x.r3;
@@ -145,29 +104,29 @@ fn permits(rule: u8, x: Flags, right: u32, anchored: bool) -> bool
     if rule == 4 { pair } else { clauses | states }
 }
 
-// What the arrays tell of a statement, where the initial states are few or not.
+// What a statement's leaves tell of it, the first ones on the left outside the bracket, and where the initial states are few or not.
 pub fn summary(
     few: bool,
     rule: u8,
-    left: &[u64; 24],
-    right: &[u64; 16],
-    n: Counts,
+    left: &[Leaf],
+    outside: usize,
+    right: &[Leaf],
     actions: u16,
-) -> Gathered
-    requires { (n.outside ≤ n.left) × (n.left ≤ 24) × (n.right ≤ 16) }
-    ensures { Summary few rule left.now right.now n actions result }
+) -> Option<Gathered>
+    requires { outside ≤ length left.now }
+    ensures { Summary few rule left.now outside right.now actions result }
 {
-    let x = flags_in(left, right, n);
-    let anchor = find_anchor(few, rule, left, n);
-    let anchored = anchor < anchors_end(rule, n);
-    let permitted = permits(rule, x, n.right, anchored);
-    Gathered {
-        permitted,
+    let x = flags_in(left, right);
+    let anchor = find_anchor(few, rule, left, outside);
+    if !permits(rule, x, right.len(), anchor.is_some()) {
+        return None;
+    }
+    Some(Gathered {
         listed: x.l3 | x.r3,
         two: x.l5,
-        left_count: n.left,
-        right_count: n.right,
-        anchor,
+        left_count: left.len(),
+        right_count: right.len(),
+        anchor: anchor.unwrap_or(0),
         actions,
-    }
+    })
 }

@@ -1,3 +1,2 @@
-pub mod WordLaws
 pub mod ListLaws
 pub mod KnownLeaves

@@ -11,14 +11,14 @@ use Rattle.leaves.specs.Lists.{Each}
 
 module _ (P : Leaf → Type 0) where
   -- each of the first m leaves, by its number
-  pub each_at : (leaves : List ℕ) (m : ℕ) → m ≤ length leaves → Each P (leaves_in leaves m) → (j : ℕ) → j < m → P (leaf_in leaves j)
+  pub each_at : (leaves : List Leaf) (m : ℕ) → m ≤ length leaves → Each P (leaves_in leaves m) → (j : ℕ) → j < m → P (leaf_in leaves j)
   unfolding leaves_in leaf_in
   each_at leaves zero n h j l = absurd (not-suc-le-zero l)
   each_at [] (suc m) n h j l = absurd (not-suc-le-zero n)
   each_at (x ∷ xs) (suc m) n h zero l = h.0
   each_at (x ∷ xs) (suc m) n h (suc j) l = each_at xs m (le_of_suc-le-suc n) h.1 j (le_of_suc-le-suc l)
 
-  pub each_of : (leaves : List ℕ) (m : ℕ) → m ≤ length leaves → ((j : ℕ) → j < m → P (leaf_in leaves j)) → Each P (leaves_in leaves m)
+  pub each_of : (leaves : List Leaf) (m : ℕ) → m ≤ length leaves → ((j : ℕ) → j < m → P (leaf_in leaves j)) → Each P (leaves_in leaves m)
   unfolding leaves_in leaf_in
   each_of leaves zero n h = tt
   each_of [] (suc m) n h = absurd (not-suc-le-zero n)

@@ -1,7 +1,6 @@
--- A leaf of a statement as one value, and leaves in an array, one word each. Only the code's inner promises speak of this.
+-- A leaf of a statement as one value, and leaves in an array. Only the code's inner promises speak of this.
 -- Assumes nothing.
-use Rattle.std.specs.Prelude.{ℕ, ◌/◌, ◌%◌, Bool, true, false, List, [], ◌∷◌, map, get_or, take, eqb}
-use Rattle.certificate.specs.declared.Span.{Span}
+use Rattle.std.specs.Prelude.{ℕ, false, List, get_or, take}
 use Rattle.certificate.specs.declared.BasicEntry.{BasicEntry}
 use Rattle.certificate.specs.declared.BasicEntry.TheVariants.{Empty, Init, Goal, Explicit, Horn, TwoCnf}
 use Rattle.certificate.specs.declared.StateEntry.{StateEntry}
@@ -21,36 +20,16 @@ kind_of (Explicit s) = 3
 kind_of (Horn s) = 4
 kind_of (TwoCnf s) = 5
 
--- its items; none where the kind has none
-unfoldable pub items_of : BasicEntry → Span
-items_of Empty = record { at = 0; count = 0 }
-items_of Init = record { at = 0; count = 0 }
-items_of Goal = record { at = 0; count = 0 }
-items_of (Explicit s) = s
-items_of (Horn s) = s
-items_of (TwoCnf s) = s
-
-unfoldable pub basic_of : ℕ → Span → BasicEntry
-basic_of k s = get_or (Empty ∷ Init ∷ Goal ∷ Explicit s ∷ Horn s ∷ TwoCnf s ∷ []) k Empty
-
--- ---- a leaf in a word: from the top its kind, the state it is asked about, the count and the place of its items
-
-unfoldable pub flag : Bool → ℕ
-flag true = 1
-flag false = 0
-
-unfoldable pub word_leaf : ℕ → Leaf
-word_leaf w = record {
-  set = basic_of (w / 72057594037927936) (record { at = w % 4294967296; count = w / 4294967296 % 65536 });
-  after = eqb (w / 281474976710656 % 2) 1;
-}
+-- the empty set, asked about the state before the action: what an array holds before leaves are put there
+abbrev pub no_leaf : Leaf
+no_leaf = record { set = Empty; after = false }
 
 -- leaf j of an array; past the array the empty set. And its first m leaves
-unfoldable pub leaf_in : List ℕ → ℕ → Leaf
-leaf_in leaves j = word_leaf (get_or leaves j 0)
+unfoldable pub leaf_in : List Leaf → ℕ → Leaf
+leaf_in leaves j = get_or leaves j no_leaf
 
-unfoldable pub leaves_in : List ℕ → ℕ → List Leaf
-leaves_in leaves m = map word_leaf (take m leaves)
+unfoldable pub leaves_in : List Leaf → ℕ → List Leaf
+leaves_in leaves m = take m leaves
 
 -- ---- an entry of a file as a leaf's set: itself where it is basic, else the empty set
 

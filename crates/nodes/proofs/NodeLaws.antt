@@ -2,19 +2,15 @@
 -- Assumes nothing.
 use mathlib.Core.Path.{◌≡◌, refl, sym, ap, ◌∙◌}
 use Prim.Native.Nat.{ℕ}
-use mathlib.Core.Bool.{true, false, not}
-use mathlib.Core.List.{List, [], ◌∷◌}
+use mathlib.Core.Bool.{true, not}
+use mathlib.Core.List.{List}
 use lib.Dec.{T, eqb, eqb→eq, leb}
 use Rattle.task.proofs.Tests.{same, not_of}
-use denote.Enum.Declared.{tag_of}
-use types.Run.{OneOf, miss}
 use Rattle.meaning.specs.File as file
 use Rattle.meaning.specs.File.{empty, init, goal, explicit, horn, two_cnf}
 use Rattle.meaning.specs.File.{StateSet, basic, complement, intersection, union, progression, regression}
 use Rattle.meaning.specs.File.{File, state_set_at, state_kind, basic_kind, first, second}
 use Rattle.certificate.specs.declared.StateEntry.{StateEntry}
-use Rattle.certificate.specs.declared.StateEntry.TheVariants.{Basic, Complement, Intersection, Union, Progression, Regression}
-use Rattle.certificate.specs.contracts.StateEntry.{the_type}
 use Rattle.certificate.specs.Views.{view_of, view_of_basic}
 use Rattle.certificate.specs.Index.{state_place}
 use Rattle.leaves.specs.Leaves.{kind_of}
@@ -50,16 +46,6 @@ basic_view p (intersection a b) = refl
 basic_view p (union a b) = refl
 basic_view p (progression a e) = refl
 basic_view p (regression a e) = refl
-
--- an entry with another constructor
-pub not_basic : (x : StateEntry) → OneOf (1 ∷ 2 ∷ 3 ∷ 4 ∷ 5 ∷ []) (tag_of the_type x) → false ≡ is_basic_entry x
-unfolding is_basic_entry
-not_basic (Basic b) h = absurd (miss (1 ∷ 2 ∷ 3 ∷ 4 ∷ 5 ∷ []) 0 tt h)
-not_basic (Complement a) h = refl
-not_basic (Intersection a b) h = refl
-not_basic (Union a b) h = refl
-not_basic (Progression a b) h = refl
-not_basic (Regression a b) h = refl
 
 -- ---- all kinds
 

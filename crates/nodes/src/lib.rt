@@ -2,15 +2,15 @@
 #![tactic(auto)]
 
 ghost use Rattle.std.specs.Prelude.{◌≡◌};
-ghost use Rattle.certificate.specs.Known.{Known, decoded};
+ghost use Rattle.certificate.specs.Known.{decoded};
 ghost use Rattle.nodes.specs.Nodes.{numbers, node_of, node_at, is_basic_entry};
 
-use certificate::{Index, StateEntry};
+use certificate::{Checked, StateEntry};
 use leaves::kind_of;
 use lookup::state_set;
 
-// An entry's kind and the two entries that it names; 0 where it names none.
-#[derive(Clone, Copy)]
+// An entry's kind by its number in the file, which the rules' definitions compare, and the two entries that it names; 0 where it names none.
+#[derive(Clone, Copy, PartialEq, Eq, Debug)]
 pub struct Node {
     pub kind: u8,
     pub first: u16,
@@ -28,6 +28,7 @@ fn numbers(kind: u8, a: u16, b: u16) -> Node
 }
 
 // The numbers of an entry.
+#[tactic(auto, unfolding(crate::specs::Nodes::node_of))]
 pub fn node_of(x: StateEntry) -> Node
     ensures { result ≡ node_of x }
 {
@@ -42,19 +43,17 @@ pub fn node_of(x: StateEntry) -> Node
 }
 
 // The numbers of the entry with a number.
-pub fn node_at(file: &[u8], index: &Index, e: u16) -> Node
-    requires { Known file.now index.now }
-    ensures { result ≡ node_at index.now (decoded file.now) e }
+#[tactic(auto, unfolding(crate::specs::Nodes::node_at))]
+pub fn node_at(file: &Checked, e: u16) -> Node
+    ensures { result ≡ node_at file.now.index.now (decoded file.now.bytes.now) e }
 {
-    node_of(state_set(file, index, e))
+    node_of(state_set(file, e))
 }
 
 // Whether a state set is of kinds 0 to 5.
+#[tactic(auto, unfolding(crate::specs::Nodes::is_basic_entry))]
 pub fn basic(x: StateEntry) -> bool
     ensures { result ≡ is_basic_entry x }
 {
-    let StateEntry::Basic(_) = x else {
-        return false;
-    };
-    true
+    matches!(x, StateEntry::Basic(_))
 }

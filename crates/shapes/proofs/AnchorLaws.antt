@@ -10,7 +10,8 @@ use mathlib.Core.Bool.{Bool, true, false, not}
 use mathlib.Core.List.{List, [], ◌∷◌, ◌++◌, map}
 use lib.ListN.{length, get_or, length-append, length-map, get_or-append}
 use lib.Seq.{get_or-append-add}
-use lib.Dec.{eqb, eqb→eq, ltb}
+use lib.Dec.{eqb, eqb→eq}
+use Rattle.std.specs.Prelude.{Option, is_some}
 use borrow.Author.Tests.{eq-eqb, ne_eqb}
 use Rattle.task.proofs.Tests.{excluded, never, same}
 use Rattle.meaning.specs.File.{File}
@@ -19,14 +20,12 @@ use Rattle.counterexample.specs.Counter.{Asked, left_leaves}
 use Rattle.leaves.specs.declared.Leaf.{Leaf}
 use Rattle.leaves.specs.Leaves.{kind_of, leaf_in}
 use Rattle.shapes.specs.Gathered.{leaf_of, AllBasic}
-use Rattle.kinds.specs.declared.Counts.{Counts}
-use Rattle.shapes.specs.Arrays.{Put}
-use Rattle.kinds.specs.Summary.{Anchor, from_of, to_of}
+use Rattle.kinds.specs.Summary.{Anchor, Sought, from_of, to_of}
 use Rattle.parts.specs.Written.{anchors_of}
 use Rattle.counterexample.proofs.Moved.{leaf, under, plain, turned}
 use Rattle.shapes.proofs.LeafKinds.{outside_leaves, kinds_outside, kinds_left}
 use Rattle.kinds.proofs.SummaryLaws.{from_inside, to_inside, from_outside, to_outside}
-use Rattle.shapes.proofs.KindLaws.{Row, hit, length_kinds, leaf_at_lem, kind_at_lem, put_length, anchor_found}
+use Rattle.shapes.proofs.KindLaws.{Row, hit, length_kinds, leaf_at_lem, kind_at_lem, size_is, anchor_found}
 
 abbrev none : Asked
 none = record { entry = 0; after = false }
@@ -45,8 +44,11 @@ about_append h [] ys p q j l = q j l
 about_append h (x ∷ xs) ys p q zero l = p 0 (omega arith)
 about_append h (x ∷ xs) ys p q (suc j) l = about_append h xs ys (λ i g. p (suc i) (omega arith)) q j (le_of_suc-le-suc l)
 
-module _ (f : File) (h : Bool) (x : Sides) (index was is : List ℕ) (r : ℕ)
-    (p : Put index f (left_leaves f h x) 0 was is r) (b : AllBasic f (left_leaves f h x)) where
+module _ (f : File) (h : Bool) (x : Sides) (index : List ℕ) (is : List Leaf)
+    (p : is ≡ map (leaf_of index f) (left_leaves f h x)) (b : AllBasic f (left_leaves f h x)) where
+  abbrev r : ℕ
+  r = length is
+
   abbrev outside : List Asked
   outside = outside_leaves f h x
 
@@ -62,13 +64,13 @@ module _ (f : File) (h : Bool) (x : Sides) (index was is : List ℕ) (r : ℕ)
 
   size_left : r ≡ length (moved_left f x) + length (bracket f x)
   size_left =
-      put_length index f _ was is r p ∙ sym (length_kinds f (left_leaves f h x)) ∙ ap length (kinds_left f h x)
+      size_is index f _ is p ∙ sym (length_kinds f (left_leaves f h x)) ∙ ap length (kinds_left f h x)
       ∙ length-append (moved_left f x) (bracket f x)
 
   -- ---- their kinds
 
   row : (j : ℕ) → j < r → kind_of (leaf_in is j).set ≡ get_or (moved_left f x ++ bracket f x) j 0
-  row j l = kind_at_lem index f _ was is r p b none j l ∙ ap (λ (ks : List ℕ). get_or ks j 0) (kinds_left f h x)
+  row j l = kind_at_lem index f _ is p b none j l ∙ ap (λ (ks : List ℕ). get_or ks j 0) (kinds_left f h x)
 
   row_outside : Row is 0 (moved_left f x)
   row_outside i l =
@@ -83,7 +85,7 @@ module _ (f : File) (h : Bool) (x : Sides) (index was is : List ℕ) (r : ℕ)
 
   after_at : (j : ℕ) → j < r → (leaf_in is j).after ≡ (get_or (outside ++ inner) j none).after
   unfolding left_leaves leaf_of
-  after_at j l = ap (λ (y : Leaf). y.after) (leaf_at_lem index f _ was is r p none j l)
+  after_at j l = ap (λ (y : Leaf). y.after) (leaf_at_lem index f _ is p none j l)
 
   after_outside : (j : ℕ) → j < length (moved_left f x) → (leaf_in is j).after ≡ h
   after_outside j l =
@@ -103,12 +105,18 @@ module _ (f : File) (h : Bool) (x : Sides) (index was is : List ℕ) (r : ℕ)
 
   -- ---- the leaves that may be the anchor
 
-  module _ (rule : ℕ) (n : Counts) (asked : h ≡ eqb rule 2) (own : n.outside ≡ length outside) (all : n.left ≡ r) where
+  module _ (rule out : ℕ) (asked : h ≡ eqb rule 2) (own : out ≡ length outside) where
+    abbrev start : ℕ
+    start = from_of rule out
+
+    abbrev end : ℕ
+    end = to_of rule out r
+
     record Place : Type 0 where
-      row : Row is (from_of rule n) (anchors_of f rule x)
-      size : to_of rule n ≡ from_of rule n + length (anchors_of f rule x)
-      within : to_of rule n ≤ n.left
-      old : (j : ℕ) → from_of rule n ≤ j → j < to_of rule n → (leaf_in is j).after ≡ false
+      row : Row is start (anchors_of f rule x)
+      size : end ≡ start + length (anchors_of f rule x)
+      within : end ≤ r
+      old : (j : ℕ) → start ≤ j → j < end → (leaf_in is j).after ≡ false
 
     anchors_are : (t : Bool) → eqb rule 2 ≡ t → anchors_of f rule x ≡ elim t [ true ↦ bracket f x | false ↦ moved_left f x ]
     unfolding anchors_of
@@ -118,8 +126,8 @@ module _ (f : File) (h : Bool) (x : Sides) (index was is : List ℕ) (r : ℕ)
     inside_place e =
         let t : eqb rule 2 ≡ true = eq-eqb rule 2 e in
         let a : anchors_of f rule x ≡ bracket f x = anchors_are true t in
-        let u : from_of rule n ≡ length (moved_left f x) = from_inside rule n e ∙ own ∙ size_outside in
-        let v : to_of rule n ≡ r = to_inside rule n e ∙ all in
+        let u : start ≡ length (moved_left f x) = from_inside rule out r e ∙ own ∙ size_outside in
+        let v : end ≡ r = to_inside rule out r e in
         record {
           row = rw (u, a) row_inner;
           size = rw (u, v, a) size_left;
@@ -131,8 +139,8 @@ module _ (f : File) (h : Bool) (x : Sides) (index was is : List ℕ) (r : ℕ)
     outside_place e =
         let t : eqb rule 2 ≡ false = ne_eqb rule 2 e in
         let a : anchors_of f rule x ≡ moved_left f x = anchors_are false t in
-        let u : from_of rule n ≡ 0 = from_outside rule n e in
-        let v : to_of rule n ≡ length (moved_left f x) = to_outside rule n e ∙ own ∙ size_outside in
+        let u : start ≡ 0 = from_outside rule out r e in
+        let v : end ≡ length (moved_left f x) = to_outside rule out r e ∙ own ∙ size_outside in
         record {
           row = rw (u, a) row_outside;
           size = rw (u, v, a) (omega arith);
@@ -147,9 +155,8 @@ module _ (f : File) (h : Bool) (x : Sides) (index was is : List ℕ) (r : ℕ)
           | inr m ↦ outside_place (λ e. never (eqb rule 2) (same e) m)
         ]
 
-    module _ (a : ℕ) (anchor : Anchor (lists_init f) is (from_of rule n) (to_of rule n) a) where
-      pub anchored : ltb a (to_of rule n) ≡ hit (lists_init f) (anchors_of f rule x)
-      anchored = anchor_found (lists_init f) is (anchors_of f rule x) (from_of rule n) (to_of rule n) a place.size place.row anchor
+    pub anchored : (a : Option ℕ) → Sought (lists_init f) is start end a → is_some a ≡ hit (lists_init f) (anchors_of f rule x)
+    anchored = anchor_found (lists_init f) is (anchors_of f rule x) start end place.size place.row
 
-      pub anchor_old : a < to_of rule n → (a < n.left) × ((leaf_in is a).after ≡ false)
-      anchor_old l = (omega (arith, place.within), place.old a anchor.after l)
+    pub anchor_old : (a : ℕ) → Anchor (lists_init f) is start end a → (a < r) × ((leaf_in is a).after ≡ false)
+    anchor_old a k = (omega (arith, place.within, k.within), place.old a k.after k.within)

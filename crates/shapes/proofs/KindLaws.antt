@@ -1,38 +1,30 @@
 -- What stands in an array of leaves, leaf by leaf: kinds, which of them occur, and the anchor.
 -- Assumes nothing.
-use mathlib.Core.Path.{◌≡◌, refl, sym, ap, ◌∙◌, subst}
+use mathlib.Core.Path.{◌≡◌, refl, sym, ap, ap₂, ◌∙◌, subst}
 use mathlib.Core.Logic.{inl, inr}
-use Prim.Native.Nat.{ℕ, zero, suc, ◌+◌, ◌-◌, ◌≤◌, ◌<◌}
+use Prim.Native.Nat.{ℕ, zero, suc, ◌+◌, ◌-◌, ◌<◌}
 use native.Mathlib.Nat.{not-suc-le-zero, le_of_suc-le-suc}
 use native.Mathlib.Omega.{arith}
 use mathlib.Core.Bool.{Bool, true, false, ◌&&◌, ◌||◌, or_assoc}
 use mathlib.Core.List.{List, [], ◌∷◌, ◌++◌, map}
-use lib.ListN.{length, take, get_or, length-map}
-use lib.Seq.{get_or-take}
-use lib.Dec.{T, eqb, eqb→eq, leb, ltb, ltb→lt, nltb→le}
-use denote.Enum.Declared.{tag_of}
-use types.Run.{OneOf, miss}
+use lib.ListN.{length, get_or, length-map}
+use lib.Dec.{T, eqb, eqb→eq, leb}
+use Rattle.std.specs.Prelude.{Option, Some, None, is_some}
 use Rattle.task.specs.Reach.{member}
-use Rattle.task.proofs.Tests.{both_ways, and_left, and_right, and_both, or_left, or_right, or_cases, excluded, same}
+use Rattle.task.proofs.Tests.{both_ways, and_left, and_right, and_both, or_left, or_right, or_cases, same, is_true, is_false}
 use Rattle.task.proofs.Tests.{member_first, member_rest, member_cases, member_none}
 use Rattle.meaning.specs.File.{File, StateSet, basic, complement, intersection, union, progression, regression, state_set_at, state_kind}
 use Rattle.meaning.specs.Shapes.{kind_at, is_basic}
 use Rattle.counterexample.specs.Counter.{Asked}
 use Rattle.certificate.specs.declared.BasicEntry.{BasicEntry}
 use Rattle.certificate.specs.declared.BasicEntry.TheVariants.{Empty, Init, Goal, Explicit, Horn, TwoCnf}
-use Rattle.certificate.specs.declared.StateEntry.{StateEntry}
-use Rattle.certificate.specs.declared.StateEntry.TheVariants.{Basic, Complement, Intersection, Union, Progression, Regression}
-use Rattle.certificate.specs.contracts.StateEntry.{the_type}
 use Rattle.certificate.specs.Views.{view_of}
 use Rattle.certificate.specs.Index.{state_place}
 use Rattle.leaves.specs.declared.Leaf.{Leaf}
-use Rattle.leaves.specs.Leaves.{kind_of, word_leaf, leaf_in, leaves_in, basic_in, set_of}
+use Rattle.leaves.specs.Leaves.{kind_of, no_leaf, leaf_in, basic_in, set_of}
 use Rattle.nodes.proofs.NodeLaws.{basic_kind_lem}
 use Rattle.shapes.specs.Gathered.{leaf_of, AllBasic, kinds_of}
-use Rattle.kinds.specs.Summary.{may_anchor}
-use Rattle.shapes.specs.Arrays.{Put}
-use Rattle.kinds.specs.Summary.{kind_in, Anchor}
-use Rattle.meaning.proofs.Below.{some_at, some_of}
+use Rattle.kinds.specs.Summary.{may_anchor, kind_in, NoAnchor, Anchor, Sought}
 
 -- ---- a number in a list, by its index
 
@@ -62,16 +54,6 @@ get_d_mapped g [] j d e l = absurd (not-suc-le-zero l)
 get_d_mapped g (x ∷ xs) zero d e l = refl
 get_d_mapped g (x ∷ xs) (suc j) d e l = get_d_mapped g xs j d e (le_of_suc-le-suc l)
 
--- an entry with another constructor than that of kinds 0 to 5 reads as the empty set
-pub reads_empty : (x : StateEntry) → OneOf (1 ∷ 2 ∷ 3 ∷ 4 ∷ 5 ∷ []) (tag_of the_type x) → Empty ≡ basic_in x
-unfolding basic_in
-reads_empty (Basic b) h = absurd (miss (1 ∷ 2 ∷ 3 ∷ 4 ∷ 5 ∷ []) 0 tt h)
-reads_empty (Complement a) h = refl
-reads_empty (Intersection a b) h = refl
-reads_empty (Union a b) h = refl
-reads_empty (Progression a b) h = refl
-reads_empty (Regression a b) h = refl
-
 -- one of kinds 0 to 5 as a leaf's set has its kind
 pub set_kind : (index : List ℕ) (f : File) (e : ℕ) → T (is_basic f e) → kind_of (set_of index f e) ≡ kind_at f e
 unfolding set_of basic_in view_of is_basic kind_at state_kind
@@ -97,47 +79,36 @@ module _ (index : List ℕ) (f : File) where
   leaf_kind (x ∷ xs) b d zero l = set_kind index f x.entry b.0
   leaf_kind (x ∷ xs) b d (suc j) l = leaf_kind xs b.1 d j (le_of_suc-le-suc l)
 
-  module _ (xs : List Asked) (was is : List ℕ) (r : ℕ) (p : Put index f xs 0 was is r) where
-    pub put_length : r ≡ length xs
-    put_length = p.count ∙ omega arith
+  module _ (xs : List Asked) (is : List Leaf) (p : is ≡ map (leaf_of index f) xs) where
+    pub size_is : length is ≡ length xs
+    size_is = ap length p ∙ length-map xs (leaf_of index f)
 
-    pub put_leaves : leaves_in is r ≡ map (leaf_of index f) xs
-    unfolding leaves_in
-    put_leaves = p.written
-
-    pub leaf_at_lem : (d : Asked) (j : ℕ) → j < r → leaf_in is j ≡ leaf_of index f (get_or xs j d)
-    unfolding leaf_in leaves_in
+    pub leaf_at_lem : (d : Asked) (j : ℕ) → j < length is → leaf_in is j ≡ leaf_of index f (get_or xs j d)
+    unfolding leaf_in
     leaf_at_lem d j l =
-        let e : Leaf = leaf_of index f d in
-        let n : length (take r is) ≡ length xs =
-        sym (length-map (take r is) word_leaf) ∙ ap length put_leaves ∙ length-map xs (leaf_of index f) in
-        let m = put_length in
-        ap word_leaf (sym (get_or-take r is j 0 l)) ∙ sym (get_d_mapped word_leaf (take r is) j 0 e (omega arith))
-        ∙ ap (λ (ys : List Leaf). get_or ys j e) put_leaves ∙ get_d_mapped (leaf_of index f) xs j d e (omega arith)
+        ap (λ (ys : List Leaf). get_or ys j no_leaf) p ∙ get_d_mapped (leaf_of index f) xs j d no_leaf (omega (arith, size_is))
 
-    pub kind_at_lem : AllBasic f xs → (d : Asked) (j : ℕ) → j < r → kind_of (leaf_in is j).set ≡ get_or (kinds_of f xs) j 0
-    kind_at_lem b d j l =
-        let m = put_length in
-        ap (λ (x : Leaf). kind_of x.set) (leaf_at_lem d j l) ∙ leaf_kind xs b d j (omega arith)
+    pub kind_at_lem : AllBasic f xs → (d : Asked) (j : ℕ) → j < length is → kind_of (leaf_in is j).set ≡ get_or (kinds_of f xs) j 0
+    kind_at_lem b d j l = ap (λ (x : Leaf). kind_of x.set) (leaf_at_lem d j l) ∙ leaf_kind xs b d j (omega (arith, size_is))
 
--- ---- kinds that occur
+  -- ---- kinds that occur
+
+  kinds_there : (xs : List Asked) → AllBasic f xs → (k : ℕ) → kind_in (map (leaf_of index f) xs) k ≡ member k (kinds_of f xs)
+  unfolding kind_in leaf_of kinds_of member
+  kinds_there [] b k = refl
+  kinds_there (x ∷ xs) b k =
+      ap₂ ◌||◌ (ap (λ (n : ℕ). eqb n k) (set_kind index f x.entry b.0) ∙ eqb_turned (kind_at f x.entry) k) (kinds_there xs b.1 k)
+    where
+      eqb_turned : (m n : ℕ) → eqb m n ≡ eqb n m
+      eqb_turned m n = both_ways (eqb m n) (eqb n m) (λ t. same (sym (eqb→eq m n t))) (λ t. same (sym (eqb→eq n m t)))
+
+  pub kind_in_lem : (xs : List Asked) (is : List Leaf) → is ≡ map (leaf_of index f) xs → AllBasic f xs → (k : ℕ)
+      → kind_in is k ≡ member k (kinds_of f xs)
+  kind_in_lem xs is p b k = ap (λ (ys : List Leaf). kind_in ys k) p ∙ kinds_there xs b k
 
 -- some leaves in a row have the kinds of a list
-abbrev pub Row : List ℕ → ℕ → List ℕ → Type 0
+abbrev pub Row : List Leaf → ℕ → List ℕ → Type 0
 Row is from ks = (i : ℕ) → i < length ks → kind_of (leaf_in is (from + i)).set ≡ get_or ks i 0
-
-pub kind_in_lem : (is ks : List ℕ) (n k : ℕ) → n ≡ length ks → ((j : ℕ) → j < n → kind_of (leaf_in is j).set ≡ get_or ks j 0)
-    → kind_in is n k ≡ member k ks
-unfolding kind_in
-kind_in_lem is ks n k e row =
-    both_ways (kind_in is n k) (member k ks)
-    (λ t.
-    let w = some_at n (λ j. eqb (kind_of (leaf_in is j).set) k) t in
-    subst (λ (m : ℕ). T (member m ks)) (sym (row w.0 w.1) ∙ eqb→eq _ k w.2) (member_at ks w.0 (omega (arith, w.1))))
-    (λ t.
-    let w = member_index k ks t in
-    let l : w.0 < n = omega (arith, w.1) in
-    some_of n (λ j. eqb (kind_of (leaf_in is j).set) k) w.0 l (same (row w.0 l ∙ w.2)))
 
 -- ---- the anchor
 
@@ -184,26 +155,25 @@ listed_anchors few ks t =
     ]
 
 -- an anchor is found if and only if one is there
-pub anchor_found : (few : Bool) (is ks : List ℕ) (from to r : ℕ) → to ≡ from + length ks → Row is from ks → Anchor few is from to r
-    → ltb r to ≡ hit few ks
-anchor_found few is ks from to r e row h =
-    both_ways (ltb r to) (hit few ks)
-    (λ t.
-    let l : r < to = ltb→lt r to t in
-    let i : ℕ = r - from in
-    let z : from + i ≡ r = omega (arith, h.after) in
-    let g : i < length ks = omega (arith, h.after) in
-    let q : kind_of (leaf_in is r).set ≡ get_or ks i 0 = sym (ap (λ (j : ℕ). kind_of (leaf_in is j).set) z) ∙ row i g in
-    let u : may_anchor few (leaf_in is r).set ≡ listed_kind few (get_or ks i 0) = may_by_kind few (leaf_in is r).set ∙ ap (listed_kind few) q in
-    anchors_listed few (get_or ks i 0) ks (member_at ks i g) (subst T u (h.here l)))
-    (λ t.
-    let w = listed_anchors few ks t in
-    let v = member_index w.0 ks w.1 in
-    let at : ℕ = from + v.0 in
-    let q : kind_of (leaf_in is at).set ≡ w.0 = row v.0 v.1 ∙ v.2 in
-    let u : listed_kind few w.0 ≡ may_anchor few (leaf_in is at).set = sym (may_by_kind few (leaf_in is at).set ∙ ap (listed_kind few) q) in
-    let g : at < to = omega (arith, v.1) in
-    elim (excluded (ltb r to)) [
-      | inl y ↦ y
-      | inr n ↦ (let m : to ≤ r = nltb→le r to n in absurd (h.first at (omega arith) (omega arith) (subst T u w.2)))
-    ])
+module _ (few : Bool) (is : List Leaf) (ks : List ℕ) (from to : ℕ) (e : to ≡ from + length ks) (row : Row is from ks) where
+  found_hit : (r : ℕ) → Anchor few is from to r → T (hit few ks)
+  found_hit r h =
+      let i : ℕ = r - from in
+      let z : from + i ≡ r = omega (arith, h.after) in
+      let g : i < length ks = omega (arith, h.after, h.within) in
+      let q : kind_of (leaf_in is r).set ≡ get_or ks i 0 = sym (ap (λ (j : ℕ). kind_of (leaf_in is j).set) z) ∙ row i g in
+      let u : may_anchor few (leaf_in is r).set ≡ listed_kind few (get_or ks i 0) = may_by_kind few (leaf_in is r).set ∙ ap (listed_kind few) q in
+      anchors_listed few (get_or ks i 0) ks (member_at ks i g) (subst T u h.here)
+
+  none_hit : NoAnchor few is from to → T (hit few ks) → ⊥
+  none_hit h t =
+      let w = listed_anchors few ks t in
+      let v = member_index w.0 ks w.1 in
+      let at : ℕ = from + v.0 in
+      let q : kind_of (leaf_in is at).set ≡ w.0 = row v.0 v.1 ∙ v.2 in
+      let u : listed_kind few w.0 ≡ may_anchor few (leaf_in is at).set = sym (may_by_kind few (leaf_in is at).set ∙ ap (listed_kind few) q) in
+      h at (omega arith) (omega (arith, v.1)) (subst T u w.2)
+
+  pub anchor_found : (r : Option ℕ) → Sought few is from to r → is_some r ≡ hit few ks
+  anchor_found None h = sym (is_false (hit few ks) (none_hit h))
+  anchor_found (Some r) h = sym (is_true (hit few ks) (found_hit r h))

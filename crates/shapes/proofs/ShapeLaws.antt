@@ -16,11 +16,17 @@ use Rattle.meaning.specs.Shapes.{keep, Sides, is_complement, is_literal, literal
 use Rattle.meaning.specs.Shapes.{used, of_literals, of_clauses, lists_init, of_states, permitted, mixed, shape₄}
 use Rattle.kinds.specs.declared.Flags.{Flags}
 use Rattle.kinds.specs.Summary.{clauses_by, states_by, pair_by}
-use Rattle.parts.specs.Written.{literals_of}
+use Rattle.parts.specs.Written.{pair_sides, literals_of}
 use Rattle.meaning.proofs.Below.{all_at}
 use Rattle.shapes.proofs.LeafKinds.{literal_basic}
-use Rattle.parts.proofs.PartLaws.{four_tests}
 use Rattle.shapes.proofs.KindLaws.{hit, member_append}
+
+four_tests : (a b c d : Bool) → T (a && b && (c && d)) → T a × T b × T c × T d
+four_tests true true true true t = (tt, tt, tt, tt)
+four_tests true true true false t = absurd t
+four_tests true true false d t = absurd t
+four_tests true false c d t = absurd t
+four_tests false b c d t = absurd t
 
 -- the kinds on the left and on the right as flags
 abbrev pub flags_of : List ℕ → List ℕ → Flags
@@ -120,20 +126,20 @@ module _ (f : File) where
       go false = refl
 
   module _ (a b : ℕ) where
-    abbrev pub pair_sides : Sides
-    pair_sides = record { outer = a ∷ []; inner = []; right = b ∷ [] }
+    abbrev both : Sides
+    both = pair_sides a b
 
     -- rule 4
     pub paired_by : T (is_literal f a) → T (is_literal f b)
-        → shape₄ f a b ≡ pair_by (flags_of (moved_left f pair_sides ++ bracket f pair_sides) (moved_right f pair_sides))
+        → shape₄ f a b ≡ pair_by (flags_of (moved_left f both ++ bracket f both) (moved_right f both))
     unfolding shape₄ moved_left moved_right bracket
     paired_by s t =
         let l : literal_kind f a < 6 = below (literal_basic f a s) in
         let m : literal_kind f b < 6 = below (literal_basic f b t) in
         let p : left_pair (literal_kind f a) (is_complement f a) (literal_kind f b) (is_complement f b)
-        ≡ moved_left f pair_sides ++ bracket f pair_sides =
+        ≡ moved_left f both ++ bracket f both =
         ap₂ ◌++◌ (sym (one_other a)) (sym (one_complement b)) ∙ sym (append-nil _) in
-        let q : left_pair (literal_kind f b) (is_complement f b) (literal_kind f a) (is_complement f a) ≡ moved_right f pair_sides =
+        let q : left_pair (literal_kind f b) (is_complement f b) (literal_kind f a) (is_complement f a) ≡ moved_right f both =
         ap₂ ◌++◌ (sym (one_other b)) (sym (one_complement a)) in
         ap₂ (λ (i j : Bool). i && j && mixed f (literal_kind f a) (is_complement f a) (literal_kind f b) (is_complement f b))
         (is_true (is_literal f a) s) (is_true (is_literal f b) t)

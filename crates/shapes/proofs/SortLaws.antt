@@ -16,7 +16,7 @@ use Rattle.kinds.specs.declared.Flags.{Flags}
 use Rattle.kinds.specs.Summary.{clauses_by, states_by, pair_by}
 use Rattle.trees.proofs.TreeLaws.{keep_short}
 use Rattle.shapes.proofs.KindLaws.{hit}
-use Rattle.shapes.proofs.ShapeLaws.{pair_sides}
+use Rattle.parts.specs.Written.{pair_sides}
 
 pub clash : (b : Bool) → T b → b ≡ false → ⊥
 clash true t e = subst T e t
@@ -72,7 +72,7 @@ module _ (x : Flags) (m : ℕ) (anchored : Bool) where
 -- ---- one entry a side
 
 module _ (f : File) (a b : ℕ) where
-  pub pair_few : length (keep (λ k. not (eqb k 0)) (moved_right f (pair_sides f a b))) ≤ 2
+  pub pair_few : length (keep (λ k. not (eqb k 0)) (moved_right f (pair_sides a b))) ≤ 2
   unfolding moved_right others complements
   pair_few =
       let u = keep (λ e. not (is_complement f e)) (b ∷ []) in
@@ -87,9 +87,9 @@ module _ (f : File) (a b : ℕ) where
         keep_short (is_complement f) (a ∷ []),
       )
 
-  pub pair_anchor : T (member 3 (moved_left f (pair_sides f a b) ++ bracket f (pair_sides f a b)))
-      → T (hit (lists_init f) (moved_left f (pair_sides f a b)))
+  pub pair_anchor : T (member 3 (moved_left f (pair_sides a b) ++ bracket f (pair_sides a b)))
+      → T (hit (lists_init f) (moved_left f (pair_sides a b)))
   unfolding bracket hit
   pair_anchor t =
-      let w = moved_left f (pair_sides f a b) in
+      let w = moved_left f (pair_sides a b) in
       or_right (member 0 w || (member 1 w && lists_init f)) (member 3 w) (subst (λ (ks : List ℕ). T (member 3 ks)) (append-nil w) t)

@@ -1,11 +1,12 @@
 -- Leaves written into an array after those that are there. Only the code's inner promises speak of this.
 -- Assumes nothing.
-use Rattle.std.specs.Prelude.{◌≡◌, ℕ, ◌+◌, ◌≤◌, Bool, true, false, not, ◌&&◌, ◌||◌, List, ◌++◌, map, length, get_or, eqb}
+use Rattle.std.specs.Prelude.{◌≡◌, ℕ, ◌+◌, ◌≤◌, Bool, true, false, not, ◌&&◌, ◌||◌, List, ◌++◌, map, length, eqb, Option, Some, None}
 use Rattle.meaning.specs.File.{File}
 use Rattle.meaning.specs.Shapes.{keep, Sides, kind_at, child, is_complement}
 use Rattle.counterexample.specs.Counter.{Asked}
-use Rattle.leaves.specs.Leaves.{leaves_in}
-use Rattle.kinds.specs.declared.Counts.{Counts}
+use Rattle.leaves.specs.declared.Leaf.{Leaf}
+use Rattle.leaves.specs.Leaves.{no_leaf, leaf_in, leaves_in}
+use Rattle.shapes.specs.declared.shape.Counts.{Counts}
 use Rattle.shapes.specs.Gathered.{leaf_of}
 
 module _ (f : File) (turned : Bool) where
@@ -21,20 +22,24 @@ module _ (f : File) (turned : Bool) where
   unfoldable pub wants : Bool → ℕ → Bool
   wants all e = on_side e && (all || not (eqb (kind_at f (entry_of e)) 0))
 
+  -- what is taken of an entry: where it is wanted, itself or the one that it names
+  unfoldable pub taken : Bool → ℕ → Option ℕ
+  taken all e = elim (wants all e) [ true ↦ Some (entry_of e) | false ↦ None ]
+
   -- the leaves of the entries that are wanted
   unfoldable pub picked : Bool → Bool → List ℕ → List Asked
   picked all after es = map (λ e. record { entry = entry_of e; after = after }) (keep (wants all) es)
 
--- k leaves more find room after n
-pub record Room (out : List ℕ) (n k : ℕ) : Type 0 where
-  pub fits : n + k ≤ length out
-  pub small : length out ≤ 24
+-- an entry of another kind than 0
+unfoldable pub filled : File → Option ℕ → Option ℕ
+filled f None = None
+filled f (Some d) = elim (not (eqb (kind_at f d) 0)) [ true ↦ Some d | false ↦ None ]
 
 -- the leaves stand in the array after the first `from`, and r are there then; what follows is as it was
-pub record Put (index : List ℕ) (f : File) (xs : List Asked) (from : ℕ) (was is : List ℕ) (r : ℕ) : Type 0 where
+pub record Put (index : List ℕ) (f : File) (xs : List Asked) (from : ℕ) (was is : List Leaf) (r : ℕ) : Type 0 where
   pub count : r ≡ from + length xs
   pub written : leaves_in is r ≡ leaves_in was from ++ map (leaf_of index f) xs
-  pub rest : (j : ℕ) → r ≤ j → get_or is j 0 ≡ get_or was j 0
+  pub rest : (j : ℕ) → r ≤ j → leaf_in is j ≡ leaf_in was j
   pub kept : length is ≡ length was
 
 module _ (f : File) where
@@ -48,11 +53,12 @@ module _ (f : File) where
   unfoldable pub picked_right : Bool → Sides → List Asked
   picked_right h x = picked f false false h x.right ++ picked f true false h x.outer
 
-  pub record Filled (index : List ℕ) (h : Bool) (x : Sides) (left₀ left right₀ right : List ℕ) (n : Counts) : Type 0 where
+  pub record Filled (index : List ℕ) (h : Bool) (x : Sides) (left₀ left right₀ right : List Leaf) (n : Counts) : Type 0 where
     pub outside : n.outside ≡ length (picked_outside h x)
     pub on_left : Put index f (picked_left h x) 0 left₀ left n.left
     pub on_right : Put index f (picked_right h x) 0 right₀ right n.right
     pub few : (n.outside ≤ n.left) × (n.left ≤ 24) × (n.right ≤ 16)
 
-abbrev pub Zeros : List ℕ → Type 0
-Zeros xs = (i : ℕ) → get_or xs i 0 ≡ 0
+-- nothing stands in an array yet
+abbrev pub Zeros : List Leaf → Type 0
+Zeros xs = (i : ℕ) → leaf_in xs i ≡ no_leaf

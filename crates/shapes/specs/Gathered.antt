@@ -1,7 +1,7 @@
 -- What the code gathers of a basic statement on state sets, rules 1 to 4, before it decides its truth.
 -- Only the code's inner promises speak of this.
 -- Assumes nothing.
-use Rattle.std.specs.Prelude.{◌≡◌, ℕ, zero, suc, ◌≤◌, ◌<◌, Bool, true, false, ◌||◌, List, [], ◌∷◌, map, length, get_or, T, eqb}
+use Rattle.std.specs.Prelude.{◌≡◌, ℕ, zero, suc, ◌≤◌, ◌<◌, Bool, true, false, ◌||◌, List, [], ◌∷◌, map, length, T, eqb}
 use Rattle.task.specs.Reach.{member}
 use Rattle.meaning.specs.File.{File}
 use Rattle.meaning.specs.Shapes.{kind_at, is_basic, lists_init}
@@ -9,7 +9,7 @@ use Rattle.task.specs.declared.Action.{Action}
 use Rattle.task.specs.Inner.{no_action}
 use Rattle.counterexample.specs.Counter.{Asked, ActionsOf, left_leaves, right_leaves}
 use Rattle.leaves.specs.declared.Leaf.{Leaf}
-use Rattle.leaves.specs.Leaves.{leaf_in, leaves_in, set_of}
+use Rattle.leaves.specs.Leaves.{no_leaf, leaf_in, leaves_in, set_of}
 use Rattle.kinds.specs.declared.Gathered.{Gathered}
 use Rattle.kinds.specs.Summary.{may_anchor}
 use Rattle.parts.specs.Written.{sides_of, actions_of_rule}
@@ -52,15 +52,15 @@ Acts f (suc zero) a = λ c. c ≡ no_action
 Acts f (suc (suc (suc (suc k)))) a = λ c. c ≡ no_action
 
 -- of a permitted statement: its left and right leaves
-pub record Gathers (f : File) (index : List ℕ) (rule a b : ℕ) (left right : List ℕ) (r : Gathered) : Type 0 where
+pub record Gathers (f : File) (index : List ℕ) (rule a b : ℕ) (left right : List Leaf) (r : Gathered) : Type 0 where
   pub left_count_is : r.left_count ≡ length (left_of f rule a b)
   pub left_leaves_are : leaves_in left r.left_count ≡ map (leaf_of index f) (left_of f rule a b)
   pub few_left : r.left_count ≤ 24
   pub right_count_is : r.right_count ≡ length (right_of f rule a b)
   pub right_leaves_are : leaves_in right r.right_count ≡ map (leaf_of index f) (right_of f rule a b)
   pub few_right : r.right_count ≤ 16
-  -- after the right leaves stand zeros, which read as leaves of the empty set
-  pub no_more : (j : ℕ) → r.right_count ≤ j → get_or right j 0 ≡ 0
+  -- after the right leaves stand leaves of the empty set
+  pub no_more : (j : ℕ) → r.right_count ≤ j → leaf_in right j ≡ no_leaf
   -- some leaf is explicit
   pub listed : r.listed ≡ member 3 (kinds_of f (left_of f rule a b)) || member 3 (kinds_of f (right_of f rule a b))
   -- a left leaf is two-literal

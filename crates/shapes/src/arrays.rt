@@ -1,110 +1,88 @@
-// Leaves written into an array, one word each.
-ghost use Rattle.std.specs.Prelude.{◌≡◌, [], ◌∷◌};
-ghost use Rattle.certificate.specs.Known.{Known, decoded};
+// Leaves written into an array.
+ghost use Rattle.std.specs.Prelude.{◌≡◌, ℕ, ◌+◌, ◌≤◌, Bool, true, false, length, Option};
+ghost use Rattle.certificate.specs.Known.{decoded};
 ghost use Rattle.leaves.specs.Leaves.{basic_in};
-ghost use Rattle.trees.specs.Trees.{list_of, Sound};
-ghost use Rattle.shapes.specs.Arrays.{entry_of, wants, picked, Room, Put};
+ghost use Rattle.trees.specs.Trees.{list_of};
+ghost use Rattle.shapes.specs.Gathered.{leaf_of};
+ghost use Rattle.shapes.specs.Arrays.{taken, filled, picked, Put};
 
-use certificate::{BasicEntry, Index, StateEntry};
-use leaves::{Leaf, word_of};
+use certificate::{BasicEntry, Checked, StateEntry};
+use leaves::Leaf;
 use lookup::state_set;
 use nodes::node_at;
 use trees::{Leaves, has_kind};
 
 // A state set of kinds 0 to 5 itself; the empty set for another.
+#[tactic(auto, unfolding(leaves::specs::Leaves::basic_in))]
 fn basic_in(x: StateEntry) -> BasicEntry
     ensures { result ≡ basic_in x }
 {
-    let StateEntry::Basic(set) = x else {
-        return BasicEntry::Empty;
-    };
-    set
-}
-
-// Writes one leaf at number n, and returns the next number.
-fn put_leaf(file: &[u8], index: &Index, e: u16, after: bool, out: &mut [u64], n: u32) -> u32
-    requires known { Known file.now index.now }
-    requires room { Room out.old n 1 }
-    ensures { Put index.now (decoded file.now)
-        (record { entry = e; after = after } ∷ []) n out.old out.new result }
-{
-    let set = basic_in(state_set(file, index, e));
-    out[n as usize] = word_of(Leaf { set, after });
-    n + 1
-}
-
-// The entry itself, or the one that it names.
-fn entry_of(file: &[u8], index: &Index, e: u16, turned: bool) -> u16
-    requires { Known file.now index.now }
-    ensures { result ≡ entry_of (decoded file.now) turned e }
-{
-    if turned {
-        node_at(file, index, e).first
-    } else {
-        e
+    match x {
+        StateEntry::Basic(set) => set,
+        _ => BasicEntry::Empty,
     }
 }
 
-// Whether an entry is wanted: a complement or not, as asked, and of another kind than 0 or of any.
-fn wanted(file: &[u8], index: &Index, e: u16, turned: bool, all: bool) -> bool
-    requires { Known file.now index.now }
-    ensures { result ≡ wants (decoded file.now) turned all e }
+// The leaf of an entry.
+fn leaf_of(file: &Checked, e: u16, after: bool) -> Leaf
+    ensures { result ≡ leaf_of file.now.index.now (decoded file.now.bytes.now) (record { entry = e; after = after }) }
 {
-    let d = entry_of(file, index, e, turned);
-    let y = node_at(file, index, d);
-    let side = has_kind(file, index, e, 6, turned);
-    side & (all | (y.kind != 0))
-}
-
-// Writes the leaf of an entry, if it is wanted.
-fn put_entry(
-    file: &[u8],
-    index: &Index,
-    e: u16,
-    turned: bool,
-    all: bool,
-    after: bool,
-    out: &mut [u64],
-    n: u32,
-) -> u32
-    requires known { Known file.now index.now }
-    requires room { Room out.old n 1 }
-    ensures { Put index.now (decoded file.now)
-        (picked (decoded file.now) turned all after (e ∷ [])) n out.old out.new result }
-{
-    if wanted(file, index, e, turned, all) {
-        let d = entry_of(file, index, e, turned);
-        put_leaf(file, index, d, after, out, n)
-    } else {
-        n
+    Leaf {
+        set: basic_in(state_set(file, e)),
+        after,
     }
 }
 
-// Writes the leaves of those entries that are wanted.
-pub(crate) fn put(
-    file: &[u8],
-    index: &Index,
-    xs: Leaves,
-    turned: bool,
-    all: bool,
-    after: bool,
-    out: &mut [u64],
-    from: u32,
-) -> u32
-    requires known { Known file.now index.now }
-    requires sound { Sound xs }
-    requires room { Room out.old from xs.count }
-    ensures { Put index.now (decoded file.now)
-        (picked (decoded file.now) turned all after (list_of xs)) from out.old out.new result }
+// The entry itself, where it is no complement.
+pub(crate) fn plain(file: &Checked, e: u16) -> Option<u16>
+    ensures { result ≡ taken (decoded file.now.bytes.now) false true e }
 {
-    let items = xs.items;
-    let count = xs.count;
+    if has_kind(file, e, 6) { None } else { Some(e) }
+}
+
+// The entry whose complement it is, where it is one.
+pub(crate) fn turned(file: &Checked, e: u16) -> Option<u16>
+    ensures { result ≡ taken (decoded file.now.bytes.now) true true e }
+{
+    if has_kind(file, e, 6) {
+        Some(node_at(file, e).first)
+    } else {
+        None
+    }
+}
+
+// The same entry, where it is not of kind 0.
+pub(crate) fn filled(file: &Checked, e: Option<u16>) -> Option<u16>
+    ensures { result ≡ filled (decoded file.now.bytes.now) e }
+{
+    let d = e?;
+    if has_kind(file, d, 0) { None } else { Some(d) }
+}
+
+// Writes the leaves of what is taken of the entries, from a place on, and returns the place after them.
+pub(crate) fn put<F: Fn(u16) -> Option<u16>>(
+    file: &Checked,
+    xs: &Leaves,
+    take: F,
+    after: bool,
+    out: &mut [Leaf],
+    from: usize,
+) -> usize
+    requires call { F.IsAlwaysCallable take }
+    requires room { from + xs.now.count ≤ length out.old }
+    requires small { length out.old ≤ 24 }
+    ensures few { (result ≤ from + xs.now.count) × (length out.new ≡ length out.old) }
+    ensures written { (turned all : Bool)
+        → ((e : ℕ) (r : Option ℕ) → F.post take e r → r ≡ taken (decoded file.now.bytes.now) turned all e)
+        → Put file.now.index.now (decoded file.now.bytes.now)
+        (picked (decoded file.now.bytes.now) turned all after (list_of xs.now)) from out.old out.new result }
+{
     let mut n = from;
-    let mut i = 0u8;
-    while i < count {
-        let e = items[i as usize];
-        n = put_entry(file, index, e, turned, all, after, out, n);
-        i += 1;
+    for &e in xs.entries() {
+        if let Some(d) = take(e) {
+            out[n] = leaf_of(file, d, after);
+            n += 1;
+        }
     }
     n
 }

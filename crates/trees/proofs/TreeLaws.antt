@@ -1,67 +1,68 @@
 -- Short lists of entries: one more entry, and the leaves of a tree, found one after the other.
 -- Assumes nothing.
-use mathlib.Core.Path.{◌≡◌, refl, sym, ap, ap₂, ◌∙◌, subst}
+use mathlib.Core.Path.{◌≡◌, refl, sym, ap, ap₂, ◌∙◌}
 use Prim.Native.Nat.{ℕ, suc, ◌+◌, ◌-◌, ◌≤◌, ◌<◌}
 use native.Mathlib.Numerals.{add-one}
 use native.Mathlib.Omega.{arith}
-use mathlib.Core.Bool.{Bool, true, false, not, ◌&&◌}
+use mathlib.Core.Bool.{Bool, true, false, not, ◌&&◌, ◌||◌}
 use mathlib.Core.List.{List, [], ◌∷◌, ◌++◌, append_assoc, append-nil}
-use lib.ListN.{length, take, get_or, set, length-append, length-set}
-use lib.Seq.{take_all, take-append-le, take-suc, take-suc-set, length-take-le}
-use lib.Dec.{T, eqb}
+use lib.ListN.{length, take, get_or, set, length-append}
+use lib.Seq.{take-suc, take-suc-set, length-take-le}
+use lib.Dec.{T, eqb, leb}
+use Rattle.std.specs.List.{list_all}
 use Rattle.task.specs.Reach.{every}
-use Rattle.meaning.specs.File.{File, state_set_at, second}
+use Rattle.meaning.specs.File.{File, state_set_at, first, second, state_kind, basic_kind}
+use Rattle.meaning.specs.File.{StateSet, basic, complement, intersection, union, progression, regression}
+use Rattle.meaning.specs.File.{empty, init, goal, explicit, horn, two_cnf}
 use Rattle.meaning.proofs.Order.{Ordered}
-use Rattle.meaning.specs.Shapes.{keep, kind_at, child, leaves}
+use Rattle.meaning.specs.Shapes.{keep, kind_at, child, leaves, is_basic, is_complement, is_literal}
+use Rattle.certificate.specs.declared.StateEntry.{StateEntry}
+use Rattle.certificate.specs.declared.StateEntry.TheVariants.{Basic, Complement, Intersection, Union, Progression, Regression}
+use Rattle.certificate.specs.Views.{view_of}
+use Rattle.certificate.specs.Index.{state_place}
 use Rattle.trees.specs.declared.Leaves.{Leaves}
-use Rattle.trees.specs.Trees.{list_of, Sound, Lists, Found, with_wanted}
-use Rattle.counterexample.proofs.Lists.{every_one, every_append, keep_cases}
+use Rattle.trees.specs.Trees.{list_of, Lists}
+use Rattle.counterexample.proofs.Lists.{keep_cases}
 use Rattle.counterexample.proofs.LeafLaws.{TreeKind, leaves_some, leaves_tree, leaves_leaf}
 
-pub count_list : (x : Leaves) → Sound x → length (list_of x) ≡ x.count
+pub count_list : (x : Leaves) → length (list_of x) ≡ x.count
 unfolding list_of
-count_list x s = length-take-le x.count x.items (omega (arith, s.few, s.room))
+count_list x = length-take-le x.count x.items (omega (arith, x.few, x.room))
+
+pub few_in : (x : Leaves) (es : List ℕ) → es ≡ list_of x → length es ≤ 9
+few_in x es e = omega (arith, ap length e, count_list x, x.few)
 
 -- a list lists what it holds
-pub lists_itself : (x : Leaves) → Sound x → Lists x (list_of x)
-lists_itself x s = record { sound = s; same = refl; size = sym (count_list x s) }
+lists_of : (x : Leaves) (es : List ℕ) → list_of x ≡ es → Lists x es
+lists_of x es e = record { same = e; size = sym (count_list x) ∙ ap length e }
 
--- what a full list holds is all that is kept
-pub lists_full : (x : Leaves) → Sound x → 9 ≤ x.count → (es : List ℕ) → Lists x (take 9 (list_of x ++ es))
-lists_full x s l es =
-    let n : length (list_of x) ≡ 9 = count_list x s ∙ omega (arith, s.few) in
-    let e : take 9 (list_of x ++ es) ≡ list_of x = take-append-le 9 (list_of x) es (omega arith) ∙ take_all 9 (list_of x) (omega arith) in
-    subst (Lists x) (sym e) (lists_itself x s)
+-- no entries
+pub lists_none : (x : Leaves) → x.count ≡ 0 → Lists x []
+unfolding list_of
+lists_none x e = lists_of x [] (ap (λ (n : ℕ). take n x.items) e)
 
 -- one entry more
-pub lists_more : (x : Leaves) → Sound x → x.count < 9 → (e : ℕ)
-    → Lists (record { items = set x.items x.count e; count = x.count + 1 }) (take 9 (list_of x ++ e ∷ []))
+pub lists_more : (x y : Leaves) (e : ℕ) → x.count < 9 → y.items ≡ set x.items x.count e → y.count ≡ x.count + 1
+    → Lists y (list_of x ++ e ∷ [])
 unfolding list_of
-lists_more x s l e =
-    let y : Leaves = record { items = set x.items x.count e; count = x.count + 1 } in
-    let t : Sound y = record { few = omega arith; room = length-set x.items x.count e ∙ s.room } in
-    let g : list_of y ≡ list_of x ++ e ∷ [] = rw add-one (take-suc-set x.items x.count e (omega (arith, s.room))) in
-    let n : length (list_of x ++ e ∷ []) ≤ 9 = omega (arith, length-append (list_of x) (e ∷ []), count_list x s) in
-    subst (Lists y) (g ∙ sym (take_all 9 _ n)) (lists_itself y t)
+lists_more x y e l i n =
+    lists_of y (list_of x ++ e ∷ [])
+    (ap₂ take n i ∙ rw add-one (take-suc-set x.items x.count e (omega (arith, x.room))))
+
+-- one entry less
+pub lists_last : (x y : Leaves) → (x.count ≡ 0 → ⊥) → y.items ≡ x.items → y.count ≡ x.count - 1
+    → Lists x (list_of y ++ get_or x.items (x.count - 1) 0 ∷ [])
+unfolding list_of
+lists_last x y l i n =
+    let m : suc (x.count - 1) ≡ x.count = omega arith in
+    lists_of x (list_of y ++ get_or x.items (x.count - 1) 0 ∷ [])
+    (ap (λ (k : ℕ). take k x.items) (sym m) ∙ take-suc x.items (x.count - 1) 0 (omega (arith, x.few, x.room))
+    ∙ ap (λ (xs : List ℕ). xs ++ get_or x.items (x.count - 1) 0 ∷ []) (sym (ap₂ take n i)))
+
+pub size_more : (x y : Leaves) (e : ℕ) → Lists y (list_of x ++ e ∷ []) → y.count ≡ x.count + 1
+size_more x y e h = omega (arith, h.size, length-append (list_of x) (e ∷ []), count_list x)
 
 -- ---- the leaves of a tree
-
--- one entry more, where there is room
-pub added : (x y : Leaves) (e : ℕ) → Sound x → x.count < 9 → Lists y (take 9 (list_of x ++ e ∷ [])) → Lists y (list_of x ++ e ∷ [])
-added x y e s l h = subst (Lists y) (take_all 9 (list_of x ++ e ∷ []) (omega (arith, length-append (list_of x) (e ∷ []), count_list x s))) h
-
--- a list without its last entry
-abbrev pub rest : Leaves → Leaves
-rest x = record { items = x.items; count = x.count - 1 }
-
-pub rest_sound : (x : Leaves) → Sound x → Sound (rest x)
-rest_sound x s = record { few = omega (arith, s.few); room = s.room }
-
-rest_last : (x : Leaves) → Sound x → 0 < x.count → list_of x ≡ list_of (rest x) ++ get_or x.items (x.count - 1) 0 ∷ []
-unfolding list_of
-rest_last x s l =
-    let n : suc (x.count - 1) ≡ x.count = omega arith in
-    ap (λ (k : ℕ). take k x.items) (sym n) ∙ take-suc x.items (x.count - 1) 0 (omega (arith, s.few, s.room))
 
 module _ (f : File) (k : ℕ) where
   -- the leaves of the entries that wait, of which the last comes first
@@ -76,8 +77,7 @@ module _ (f : File) (k : ℕ) where
 
   -- what was found and what waits are all the leaves of e
   pub record Tour (e : ℕ) (out waiting : Leaves) : Type 0 where
-    pub found : Sound out
-    pub waits : Sound waiting
+    pub low : out.count ≤ 8
     pub room : out.count + waiting.count ≤ 9
     pub whole : list_of out ++ unread (list_of waiting) ≡ leaves f k e
 
@@ -88,89 +88,64 @@ module _ (f : File) (o : Ordered f) (k : ℕ) (tree : TreeKind k) (e : ℕ) wher
 
   pub tour_start : (out waiting : Leaves) → Lists out [] → Lists waiting (e ∷ []) → Tour f k e out waiting
   tour_start out waiting h w = record {
-    found = h.sound;
-    waits = w.sound;
+    low = omega (arith, h.size);
     room = omega (arith, h.size, w.size);
     whole = ap₂ (λ (xs ys : List ℕ). xs ++ unread f k ys) h.same w.same;
   }
 
   module _ (out waiting : Leaves) (v : Tour f k e out waiting) where
-    -- nine are too many
-    pub tour_many : 9 ≤ out.count + waiting.count → (x : Leaves) → Sound x → x.count ≡ 9 → Found x (leaves f k e)
-    tour_many l x s n = record {
-      sound = s;
-      all = λ h. absurd (omega (arith, h, n));
-      few = λ h.
+    pub tour_end : Lists waiting [] → Lists out (leaves f k e) × (length (leaves f k e) ≤ 8)
+    tour_end h =
+        let w : list_of out ≡ leaves f k e = sym (append-nil (list_of out)) ∙ ap (λ (xs : List ℕ). list_of out ++ unread f k xs) (sym h.same) ∙ v.whole in
+        let n : length (leaves f k e) ≡ out.count = sym (ap length w) ∙ count_list out in
+        (lists_of out (leaves f k e) w, omega (arith, v.low))
+
+    -- d is the next entry
+    module _ (rest : Leaves) (d : ℕ) (p : Lists waiting (list_of rest ++ d ∷ [])) where
+      one_less : waiting.count ≡ rest.count + 1
+      one_less = size_more rest waiting d p
+
+      unread_head : unread f k (list_of waiting) ≡ leaves f k d ++ unread f k (list_of rest)
+      unread_head = ap (unread f k) p.same ∙ unread_last f k (list_of rest) d
+
+      -- nine are too many
+      pub tour_many : 8 ≤ out.count + rest.count → 8 < length (leaves f k e)
+      tour_many l =
           let m = ap length v.whole in
           let n = length-append (list_of out) (unread f k (list_of waiting)) in
-          absurd (omega (arith, h, m, n, unread_long (list_of waiting), count_list out v.found, count_list waiting v.waits));
-    }
-
-    pub tour_end : waiting.count ≤ 0 → Found out (leaves f k e)
-    unfolding list_of
-    tour_end l =
-        let z : waiting.count ≡ 0 = omega arith in
-        let w : list_of out ≡ leaves f k e =
-        sym (append-nil (list_of out)) ∙ ap (λ (n : ℕ). list_of out ++ unread f k (take n waiting.items)) (sym z) ∙ v.whole in
-        let n : out.count ≡ length (leaves f k e) = sym (count_list out v.found) ∙ ap length w in
-        record { sound = v.found; all = λ _. record { sound = v.found; same = w; size = n }; few = λ h. omega (arith, h, n) }
-
-    module _ (some : 0 < waiting.count) (few : out.count + waiting.count < 9) where
-      abbrev head : ℕ
-      head = get_or waiting.items (waiting.count - 1) 0
-
-      unread_head : unread f k (list_of waiting) ≡ leaves f k head ++ unread f k (list_of (rest waiting))
-      unread_head = ap (unread f k) (rest_last waiting v.waits some) ∙ unread_last f k (list_of (rest waiting)) head
+          omega (arith, m, n, one_less, unread_long (list_of waiting), count_list out, count_list waiting)
 
       -- the next entry is a leaf
-      pub tour_leaf : T (not (eqb (kind_at f head) k)) → (more : Leaves) → Lists more (take 9 (list_of out ++ head ∷ []))
-          → (more.count ≡ out.count + 1) × Tour f k e more (rest waiting)
-      tour_leaf n more h =
-          let g = added out more head v.found (omega arith) h in
-          let m : length (list_of out ++ head ∷ []) ≡ length (list_of out) + 1 = length-append (list_of out) (head ∷ []) in
-          let c : more.count ≡ out.count + 1 = omega (arith, g.size, m, count_list out v.found) in (
-            c,
-            record {
-              found = g.sound;
-              waits = rest_sound waiting v.waits;
-              room = omega (arith, c, v.room);
-              whole =
-                  ap (λ (xs : List ℕ). xs ++ unread f k (list_of (rest waiting))) g.same
-                  ∙ append_assoc (list_of out) (head ∷ []) (unread f k (list_of (rest waiting)))
-                  ∙ ap (λ (xs : List ℕ). list_of out ++ (xs ++ unread f k (list_of (rest waiting)))) (sym (leaves_leaf f o k tree head n))
-                  ∙ ap (λ (xs : List ℕ). list_of out ++ xs) (sym unread_head)
-                  ∙ v.whole;
-            },
-          )
+      pub tour_leaf : T (not (eqb (kind_at f d) k)) → (more : Leaves) → Lists more (list_of out ++ d ∷ [])
+          → out.count + rest.count < 8 → Tour f k e more rest
+      tour_leaf n more h l = record {
+        low = omega (arith, size_more out more d h);
+        room = omega (arith, size_more out more d h, one_less, v.room);
+        whole =
+            ap (λ (xs : List ℕ). xs ++ unread f k (list_of rest)) h.same
+            ∙ append_assoc (list_of out) (d ∷ []) (unread f k (list_of rest))
+            ∙ ap (λ (xs : List ℕ). list_of out ++ (xs ++ unread f k (list_of rest))) (sym (leaves_leaf f o k tree d n))
+            ∙ ap (λ (xs : List ℕ). list_of out ++ xs) (sym unread_head)
+            ∙ v.whole;
+      }
 
       -- the next entry is of the tree's kind, and the two that it names wait in its place
-      pub tour_tree : T (eqb (kind_at f head) k) → (a b : ℕ) → a ≡ child f head → b ≡ second (state_set_at f head)
-          → (more both : Leaves) → Lists more (take 9 (list_of (rest waiting) ++ b ∷ [])) → Lists both (take 9 (list_of more ++ a ∷ []))
-          → (both.count ≡ waiting.count + 1) × Tour f k e out both
-      tour_tree t a b p q more both h i =
-          let r = rest_sound waiting v.waits in
-          let g = added (rest waiting) more b r (omega (arith, v.room)) h in
-          let l : length (list_of (rest waiting) ++ b ∷ []) ≡ length (list_of (rest waiting)) + 1 =
-          length-append (list_of (rest waiting)) (b ∷ []) in
-          let m : more.count ≡ waiting.count = omega (arith, g.size, l, count_list (rest waiting) r) in
-          let j = added more both a g.sound (omega arith) i in
-          let n : length (list_of more ++ a ∷ []) ≡ length (list_of more) + 1 = length-append (list_of more) (a ∷ []) in
-          let c : both.count ≡ waiting.count + 1 = omega (arith, j.size, n, count_list more g.sound, m) in
+      pub tour_tree : T (eqb (kind_at f d) k) → (a b : ℕ) → a ≡ child f d → b ≡ second (state_set_at f d)
+          → (more both : Leaves) → Lists more (list_of rest ++ b ∷ []) → Lists both (list_of more ++ a ∷ [])
+          → out.count + rest.count < 8 → Tour f k e out both
+      tour_tree t a b p q more both h i l =
           let s : unread f k (list_of both) ≡ unread f k (list_of waiting) =
-          ap (unread f k) j.same ∙ unread_last f k (list_of more) a
-          ∙ ap (λ (xs : List ℕ). leaves f k a ++ unread f k xs) g.same
-          ∙ ap (λ (xs : List ℕ). leaves f k a ++ xs) (unread_last f k (list_of (rest waiting)) b)
-          ∙ sym (append_assoc (leaves f k a) (leaves f k b) (unread f k (list_of (rest waiting))))
-          ∙ rw (p, q) (ap (λ (xs : List ℕ). xs ++ unread f k (list_of (rest waiting))) (sym (leaves_tree f o k tree head t)))
-          ∙ sym unread_head in (
-            c,
-            record {
-              found = v.found;
-              waits = j.sound;
-              room = omega (arith, c);
-              whole = ap (λ (xs : List ℕ). list_of out ++ xs) s ∙ v.whole;
-            },
-          )
+          ap (unread f k) i.same ∙ unread_last f k (list_of more) a
+          ∙ ap (λ (xs : List ℕ). leaves f k a ++ unread f k xs) h.same
+          ∙ ap (λ (xs : List ℕ). leaves f k a ++ xs) (unread_last f k (list_of rest) b)
+          ∙ sym (append_assoc (leaves f k a) (leaves f k b) (unread f k (list_of rest)))
+          ∙ rw (p, q) (ap (λ (xs : List ℕ). xs ++ unread f k (list_of rest)) (sym (leaves_tree f o k tree d t)))
+          ∙ sym unread_head in
+          record {
+            low = v.low;
+            room = omega (arith, size_more rest more b h, size_more more both a i);
+            whole = ap (λ (xs : List ℕ). list_of out ++ xs) s ∙ v.whole;
+          }
 
 -- ---- going through a list
 
@@ -193,34 +168,58 @@ keep_short t (x ∷ xs) =
     let h = keep_short t xs in
     keep_cases t (λ ys. length ys ≤ suc (length xs)) x xs (λ _. omega arith) (λ _. omega arith)
 
-module _ (t : ℕ → Bool) (xs : List ℕ) (n i : ℕ) (few : n ≤ 9) (room : length xs ≡ 9) where
-  -- all are passed
-  pub every_end : (a : Bool) → i ≤ n → n ≤ i → a ≡ every t (take i xs) → a ≡ every t (take n xs)
-  every_end a l g p = let e : i ≡ n = omega arith in p ∙ ap (λ (k : ℕ). every t (take k xs)) e
+-- one entry more, which passes the test or does not
+module _ (t : ℕ → Bool) (xs : List ℕ) (i : ℕ) (l : i < length xs) where
+  keep_next : keep t (take (i + 1) xs) ≡ keep t (take i xs) ++ keep t (get_or xs i 0 ∷ [])
+  keep_next = rw add-one (ap (keep t) (take-suc xs i 0 l) ∙ keep_append t (take i xs) (get_or xs i 0 ∷ []))
 
-  pub keep_end : (x : Leaves) → i ≤ n → n ≤ i → Lists x (keep t (take i xs)) → Lists x (keep t (take n xs))
-  keep_end x l g p = let e : i ≡ n = omega arith in subst (λ (k : ℕ). Lists x (keep t (take k xs))) e p
+  keep_if : (b : Bool) → b ≡ t (get_or xs i 0)
+      → keep t (take (i + 1) xs) ≡ keep t (take i xs) ++ elim b [ true ↦ get_or xs i 0 ∷ [] | false ↦ [] ]
+  unfolding keep
+  keep_if b e = keep_next ∙ ap (λ (w : Bool). keep t (take i xs) ++ elim w [ true ↦ get_or xs i 0 ∷ [] | false ↦ [] ]) (sym e)
 
-  next : i < n → take (i + 1) xs ≡ take i xs ++ get_or xs i 0 ∷ []
-  next l = rw add-one (take-suc xs i 0 (omega arith))
+  pub filter_in : (x y : Leaves) (b : Bool) → b ≡ t (get_or xs i 0) → b ≡ true → Lists x (keep t (take i xs))
+      → Lists y (list_of x ++ get_or xs i 0 ∷ []) → Lists y (keep t (take (i + 1) xs))
+  filter_in x y b e u h k =
+      lists_of y _ (k.same ∙ ap (λ (ys : List ℕ). ys ++ get_or xs i 0 ∷ []) h.same ∙ sym (keep_if true (sym u ∙ e)))
 
-  pub every_next : i < n → (a b : Bool) → a ≡ every t (take i xs) → b ≡ t (get_or xs i 0) → (a && b) ≡ every t (take (i + 1) xs)
-  every_next l a b p q =
-      rw (next l) (ap₂ ◌&&◌ p (q ∙ sym (every_one t (get_or xs i 0))) ∙ sym (every_append t (take i xs) (get_or xs i 0 ∷ [])))
+  pub filter_out : (x : Leaves) (b : Bool) → b ≡ t (get_or xs i 0) → b ≡ false → Lists x (keep t (take i xs))
+      → Lists x (keep t (take (i + 1) xs))
+  filter_out x b e u h = lists_of x _ (h.same ∙ sym (append-nil (keep t (take i xs))) ∙ sym (keep_if false (sym u ∙ e)))
 
-  pub keep_next : i < n → (x y : Leaves) (want : Bool) → Lists x (keep t (take i xs)) → want ≡ t (get_or xs i 0)
-      → Lists y (with_wanted (list_of x) (get_or xs i 0) want) → Lists y (keep t (take (i + 1) xs))
-  unfolding with_wanted keep
-  keep_next l x y want p q h =
-      let w : List ℕ = keep t (take i xs) in
-      let short : length w ≤ i = omega (arith, keep_short t (take i xs), length-take-le i xs (omega arith)) in
-      let s : with_wanted w (get_or xs i 0) (t (get_or xs i 0)) ≡ w ++ keep t (get_or xs i 0 ∷ []) = go (t (get_or xs i 0)) w (omega arith) in
-      let wanted : with_wanted (list_of x) (get_or xs i 0) want ≡ w ++ keep t (get_or xs i 0 ∷ []) =
-      ap (λ (es : List ℕ). with_wanted es (get_or xs i 0) want) p.same ∙ ap (with_wanted w (get_or xs i 0)) q ∙ s in
-      subst (Lists y) (wanted ∙ sym (keep_append t (take i xs) (get_or xs i 0 ∷ [])) ∙ ap (keep t) (sym (next l))) h
-    where
-      go : (b : Bool) (w : List ℕ) → length w < 9
-          → ◌≡◌ {A = List ℕ} (elim b [ true ↦ take 9 (w ++ get_or xs i 0 ∷ []) | false ↦ w ])
-          (w ++ elim b [ true ↦ get_or xs i 0 ∷ [] | false ↦ [] ])
-      go true w s = take_all 9 (w ++ get_or xs i 0 ∷ []) (omega (arith, length-append w (get_or xs i 0 ∷ [])))
-      go false w s = sym (append-nil w)
+pub every_all : (t : ℕ → Bool) (xs : List ℕ) → list_all t xs ≡ every t xs
+unfolding every
+every_all t [] = refl
+every_all t (x ∷ xs) = ap (λ (b : Bool). t x && b) (every_all t xs)
+
+-- ---- literals
+
+module _ (f : File) where
+  -- what an entry's constructor says of it: it is a literal
+  unfoldable pub literal_in : StateEntry → Bool
+  literal_in (Basic b) = true
+  literal_in (Complement a) = is_basic f a
+  literal_in (Intersection a b) = false
+  literal_in (Union a b) = false
+  literal_in (Progression a b) = false
+  literal_in (Regression a b) = false
+
+  literal_set : (p : ℕ) (x : StateSet)
+      → (leb (state_kind x) 5 || (eqb (state_kind x) 6 && is_basic f (first x))) ≡ literal_in (view_of p x)
+  unfolding literal_in view_of state_kind first basic_kind
+  literal_set p (basic empty) = refl
+  literal_set p (basic init) = refl
+  literal_set p (basic goal) = refl
+  literal_set p (basic (explicit ss)) = refl
+  literal_set p (basic (horn cs)) = refl
+  literal_set p (basic (two_cnf cs)) = refl
+  literal_set p (complement a) = refl
+  literal_set p (intersection a b) = refl
+  literal_set p (union a b) = refl
+  literal_set p (progression a e) = refl
+  literal_set p (regression a e) = refl
+
+  pub entry_literal : (index : List ℕ) (e : ℕ) (x : StateEntry) → x ≡ view_of (state_place index e) (state_set_at f e)
+      → literal_in x ≡ is_literal f e
+  unfolding is_literal is_basic is_complement child kind_at
+  entry_literal index e x q = ap literal_in q ∙ sym (literal_set (state_place index e) (state_set_at f e))

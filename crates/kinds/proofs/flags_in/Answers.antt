@@ -1,6 +1,5 @@
 -- `kinds::flags_in` meets its contract.
 -- Assumes nothing.
-use borrow.Author.Rules.{rules}
 use Rattle.kinds.specs.Summary.{flags_in}
 use Rattle.kinds.proofs.flags_in.Goals as goal
 

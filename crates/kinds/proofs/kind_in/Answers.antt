@@ -1,19 +1,15 @@
--- `kinds::kind_in` meets its contract: what is found among the leaves passed so far.
+-- `kinds::kind_in` meets its contract.
 -- Assumes nothing.
-use mathlib.Core.Path.{◌≡◌, ap, ◌∙◌}
-use Prim.Native.Nat.{◌-◌, ◌≤◌}
-use native.Mathlib.Omega.{arith}
-use borrow.Author.Rules.{rules}
+use lib.Dec.{eqb}
+use Rattle.std.proofs.Common.{rules, tests}
+use Rattle.std.proofs.lemmas.Iterator.{YieldsList-from_slice}
+use Rattle.std.proofs.lemmas.Iterator.Search.{any_from_yields_List}
 use Rattle.leaves.specs.declared.Leaf.{Leaf}
 use Rattle.leaves.specs.Leaves.{kind_of}
 use Rattle.kinds.specs.Summary.{kind_in}
-use Rattle.kinds.proofs.SummaryLaws.{kind_none, kind_next, kind_end}
 use Rattle.kinds.proofs.kind_in.Goals as goal
 
-pub loop-j-init : goal.loop-j-init
-loop-j-init c = (omega arith, kind_none _ _)
-
-pub loop-j-preserved : goal.loop-j-preserved
-loop-j-preserved c =
-    let kind = c.kind_of.ensures ∙ ap (λ (x : Leaf). kind_of x.set) c.leaf_at-set.ensures in
-    (omega arith, kind_next _ _ _ _ c.loop-j.invariant.1 _ kind)
+pub returns : goal.returns
+unfolding kind_in
+returns c =
+    any_from_yields_List (λ (x : Leaf). eqb (kind_of x.set) c.args.k) _ _ _ c.any.ensures.ran (YieldsList-from_slice _ cc) (λ x b q k. search (rules, tests, k))

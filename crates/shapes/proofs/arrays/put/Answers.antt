@@ -1,32 +1,76 @@
--- `arrays::put` meets its contract: the leaves of the entries passed so far stand in the array.
+-- `arrays::put` meets its contract: the leaves of what was taken of the entries passed so far stand in the array.
 -- Assumes nothing.
-use mathlib.Core.Path.{◌≡◌}
-use Prim.Native.Nat.{◌-◌, ◌≤◌}
+use mathlib.Core.Path.{refl, sym, ap, ◌∙◌}
+use Prim.Native.Nat.{◌<◌}
 use native.Mathlib.Omega.{arith}
 use borrow.Author.Rules.{rules}
-use lib.ListN.{length, take}
-use Rattle.certificate.specs.Known.{decoded}
+use lib.ListN.{length, length-set}
 use Rattle.meaning.specs.Shapes.{keep}
+use Rattle.shapes.specs.Arrays.{picked}
 use Rattle.trees.specs.Trees.{list_of}
-use Rattle.shapes.specs.Arrays.{picked, Put}
-use Rattle.shapes.proofs.ArrayLaws.{put_none, put_next, put_room, put_end}
+use Rattle.trees.proofs.TreeLaws.{count_list}
+use Rattle.shapes.proofs.ArrayLaws.{put_none, put_taken, put_not_taken, put_all}
+use Rattle.shapes.proofs.arrays.put.Goals.{in-Some, in_default}
 use Rattle.shapes.proofs.arrays.put.Goals as goal
 
-pub loop-i-init : goal.loop-i-init
+pub loop-e-init : goal.loop-e-init
 unfolding picked keep
-loop-i-init c = (omega arith, c.requires.sound.few, c.requires.sound.room, put_none _ _ _ _)
+loop-e-init g c = record { few = omega arith; long = refl; written = λ t a h. put_none _ _ _ _ }
 
-pub put_entry-n-requires-clause-room : goal.put_entry-n-requires-clause-room
-put_entry-n-requires-clause-room c =
-    let v = c.loop-i.invariant in
-    put_room _ _ _ _ _ _ _ _ _ v.1 v.2 _ _ _ v.3 c.loop-i-test.true c.requires.room
+pub bounds-out-n : goal.bounds-out-n
+bounds-out-n g c =
+    let v = c.loop-e.invariant in
+    omega (arith, v.few, v.long, c.loop-e-test.true, ap length c.entries-e-items.ensures, count_list c.args.xs.now, c.requires.room)
 
-pub loop-i-preserved : goal.loop-i-preserved
-loop-i-preserved c =
-    let v = c.loop-i.invariant in
-    let more = c.loop-i-test.true in
-    (omega arith, v.1, v.2, put_next _ _ _ _ _ _ _ _ _ v.1 v.2 _ _ _ v.3 more _ _ c.put_entry-n.ensures)
+pub offset_bounds-out-n : goal.offset_bounds-out-n
+offset_bounds-out-n g c =
+    let v = c.loop-e.invariant in
+    record {
+      fits = omega (
+        arith,
+        v.few,
+        v.long,
+        c.loop-e-test.true,
+        ap length c.entries-e-items.ensures,
+        count_list c.args.xs.now,
+        c.requires.room,
+        c.requires.small,
+      );
+    }
+
+pub loop-e-preserved : goal.loop-e-preserved
+loop-e-preserved g c =
+    let v = c.loop-e.invariant in
+    elim c.match-take.branch [
+      | in-Some w ↦ (
+          let l : c.loop-e.n < length c.loop-e.out = omega (
+            arith,
+            v.few,
+            v.long,
+            c.loop-e-test.true,
+            ap length c.entries-e-items.ensures,
+            count_list c.args.xs.now,
+            c.requires.room,
+          ) in
+          rw (w.out-is, w.n-is) (record {
+            few = omega (arith, v.few);
+            long = length-set c.loop-e.out c.loop-e.n _ ∙ v.long;
+            written = λ t a h.
+                put_taken _ t a _ _ _ _ _ _ c.loop-e-test.true _ _ (v.written t a h) _
+                (sym w.in-Some.is ∙ h _ _ c.take.ensures) l _ w.leaf_of.ensures;
+          }))
+      | in_default w ↦ rw (w.out-is, w.n-is) (record {
+        few = omega (arith, v.few);
+        long = v.long;
+        written = λ t a h.
+            put_not_taken _ t a _ _ _ _ _ _ c.loop-e-test.true _ _ (v.written t a h)
+            (search (rules, w.in_default.is) ∙ h _ _ c.take.ensures);
+      })
+    ]
 
 pub returns : goal.returns
 unfolding list_of
-returns c = let v = c.loop-i.invariant in put_end _ _ _ _ _ _ _ _ _ v.1 v.2 _ _ _ v.3 v.0 c.loop-i-test.false
+returns g c =
+    let v = c.loop-e.invariant in
+    let n = ap length c.entries-e-items.ensures ∙ count_list c.args.xs.now in
+    record { few = (omega (arith, v.few, n), v.long); written = λ t a h. put_all _ t a _ _ _ _ _ _ _ _ _ (v.written t a h) c.loop-e-test.false c.entries-e-items.ensures }

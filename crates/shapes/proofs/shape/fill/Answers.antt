@@ -1,32 +1,24 @@
 -- `shape::fill` meets its contract: each list of leaves is written after the one before it.
 -- Assumes nothing.
-use native.Mathlib.Omega.{arith}
+use mathlib.Core.Path.{◌≡◌, ◌∙◌}
+use mathlib.Core.Bool.{true, false}
 use borrow.Author.Rules.{rules}
-use Rattle.shapes.proofs.ArrayLaws.{put_bounds}
+use Rattle.certificate.specs.Known.{decoded}
+use Rattle.shapes.specs.Arrays.{taken, filled}
+use Rattle.shapes.proofs.ArrayLaws.{filled_taken}
 use Rattle.shapes.proofs.SideLaws.{filled_by}
 use Rattle.shapes.proofs.shape.fill.Goals as goal
 
-pub put-outside-requires-clause-room : goal.put-outside-requires-clause-room
-put-outside-requires-clause-room c =
-    let b = put_bounds _ _ _ _ _ _ _ _ _ _ c.requires.sound_parts.outer c.put-own.ensures in
-    record { fits = omega (arith, c.requires.sound_parts.few_left, c.requires.sound_parts.few_right, b.1, b.2); small = omega (arith, b.2) }
-
-pub put-all-requires-clause-room : goal.put-all-requires-clause-room
-put-all-requires-clause-room c =
-    let a = put_bounds _ _ _ _ _ _ _ _ _ _ c.requires.sound_parts.outer c.put-own.ensures in
-    let b = put_bounds _ _ _ _ _ _ _ _ _ _ c.requires.sound_parts.right c.put-outside.ensures in
-    let l = c.requires.sound_parts.few_left in
-    let r = c.requires.sound_parts.few_right in
-    record { fits = omega (arith, a.1, b.1, a.2, b.2); small = omega (arith, a.2, b.2) }
-
-pub put-others-requires-clause-room : goal.put-others-requires-clause-room
-put-others-requires-clause-room c =
-    let b = put_bounds _ _ _ _ _ _ _ _ _ _ c.requires.sound_parts.right c.put-some.ensures in
-    record { fits = omega (arith, c.requires.sound_parts.few_left, c.requires.sound_parts.few_right, b.1, b.2); small = omega (arith, b.2) }
-
 pub returns : goal.returns
 returns c =
-    let d = c in
-    let own = d in
-    filled_by _ _ _ _ own.requires.sound_parts _ _ _ _ _ _ _ _ _ _ _ _
-    own.put-own.ensures d.put-outside.ensures d.put-all.ensures c.put-some.ensures c.put-others.ensures
+    let f = decoded c.args.file.now.bytes.now in
+    filled_by f _ _ _ _ _ _ _ _ _ _ _ _ _ _ _
+    (c.put-own.ensures.written false true (λ e r h. search (rules, h)))
+    (c.put-outside.ensures.written true true (λ e r h. search (rules, h)))
+    (c.put-all.ensures.written false true (λ e r h. search (rules, h)))
+    (c.put-some.ensures.written false false (λ e r h.
+    let x : r ≡ filled f (taken f false true e) = search (rules, h) in
+    x ∙ filled_taken f e false))
+    (c.put-others.ensures.written true false (λ e r h.
+    let x : r ≡ filled f (taken f true true e) = search (rules, h) in
+    x ∙ filled_taken f e true))
