@@ -1,20 +1,20 @@
 -- A clause is taken to fail, and the others settled again.
 -- Assumes nothing.
 use Prim.Native.Nat.{ℕ, max}
-use mathlib.Core.Path.{◌≡◌, refl, sym, ap, ◌∙◌}
-use mathlib.Core.Bool.{Bool, true, false, not, ◌||◌, true≢false}
+use mathlib.Core.Path.{◌≡◌}
+use mathlib.Core.Bool.{Bool, true, false, not}
 use native.Mathlib.Omega.{arith}
 use native.Mathlib.Decide.{dec_lt}
 use lib.Bits.{bit_and, bit_or}
-use lib.Dec.{T, eqb}
-use borrow.Author.Tests.{eq-eqb, eqb-true}
+use lib.Dec.{T}
 use Rattle.task.proofs.Tests.{not_of}
 use Rattle.task.specs.Inner.{bit}
 use Rattle.task.proofs.Bits.{bit_le, bit_and_lem, bit_or_lem, no_bits}
+use Rattle.std.specs.Prelude.{Option, Some, None}
 use Rattle.meaning.specs.declared.Clause.{Clause}
 use Rattle.propagation.specs.declared.Assignment.{Assignment}
 use Rattle.meaning.specs.Sets.{meets}
-use Rattle.propagation.specs.Propagation.{mask, holding, failing, value, Agrees, Alike, Going, Solved, Opposed, Assumed}
+use Rattle.propagation.specs.Propagation.{mask, holding, failing, value, Agrees, Alike, Meets, Going, NoneIn, Solved, OpposedTo, AssumedTo, Assumed}
 use Rattle.propagation.proofs.OneFact.{off_in_lem}
 use Rattle.propagation.proofs.ClauseLaws.{Has, met_by_lem, fails_by}
 use Rattle.propagation.proofs.PassLaws.{going_more, going_under, alike}
@@ -23,17 +23,9 @@ use Rattle.propagation.proofs.PassLaws.{going_more, going_under, alike}
 pub agrees_before : (S : ℕ → Type 0) (x r : Assignment) (s : ℕ) → Going S x r → Agrees s r → Agrees s x
 agrees_before S x r s u g =
     record {
-      calm = u.calm g.calm;
       fits = g.fits;
       says = λ b f e. g.says b f (omega (arith, u.grows b f, bit_le f (holding b r)));
     }
-
-or_calm : (a b : Bool) → a ≡ false → b ≡ false → (a || b) ≡ false
-or_calm a b p q = rw (p, q)
-
-calm_or : (a b : Bool) → (a || b) ≡ false → (a ≡ false) × (b ≡ false)
-calm_or true b e = absurd (true≢false e)
-calm_or false b e = (refl, e)
 
 -- ---- the opposite of a clause
 
@@ -43,7 +35,6 @@ module _ (x : Assignment) (c : Clause) where
       record {
         on = bit_or x.on c.negative;
         off = bit_or x.off c.positive;
-        conflict = x.conflict || not (eqb (bit_and (bit_or x.on c.negative) (bit_or x.off c.positive)) 0);
       }
 
   now_holding : (b : Bool) (f : ℕ) → bit f (holding b r) ≡ max (bit f (holding b x)) (bit f (mask (not b) c))
@@ -53,24 +44,6 @@ module _ (x : Assignment) (c : Clause) where
   now_failing : (b : Bool) (f : ℕ) → Has c b f → bit f (failing b r) ≡ 1
   now_failing true f h = omega (arith, now_holding false f, bit_le f x.off)
   now_failing false f h = omega (arith, now_holding true f, bit_le f x.on)
-
-  -- no fact is on both masks
-  clear : Type 0
-  clear = bit_and r.on r.off ≡ 0
-
-  clear_calm : clear → x.conflict ≡ false → r.conflict ≡ false
-  unfolding clear
-  clear_calm e z = or_calm x.conflict _ z (ap not (eq-eqb (bit_and r.on r.off) 0 e))
-
-  calm_clear : r.conflict ≡ false → (x.conflict ≡ false) × clear
-  unfolding clear
-  calm_clear z =
-      let p = calm_or x.conflict (not (eqb (bit_and r.on r.off) 0)) z in
-      (p.0, eqb-true (bit_and r.on r.off) 0 (un_not (eqb (bit_and r.on r.off) 0) p.1))
-    where
-      un_not : (b : Bool) → not b ≡ false → b ≡ true
-      un_not true e = refl
-      un_not false e = absurd (true≢false e)
 
   -- a state that agrees and fails the clause
   says : (s : ℕ) → T (not (meets s c)) → Agrees s x → (b : Bool) (f : ℕ) → bit f (holding b r) ≡ 1 → bit f s ≡ value b
@@ -84,28 +57,28 @@ module _ (x : Assignment) (c : Clause) where
       by true h = fails_by s c t false f h
       by false h = fails_by s c t true f h
 
-  pub opposed : Opposed c x r
-  unfolding clear
-  opposed =
+  -- no fact is on both masks
+  pub opposed : bit_and r.on r.off ≡ 0 → OpposedTo c x r
+  opposed e =
       record {
         goes =
             record {
-              sound = λ s t g.
-                  let h = says s t g in
-                  record {
-                    calm = clear_calm (no_bits _ (λ f. both s h f)) g.calm;
-                    fits = g.fits;
-                    says = h;
-                  };
+              sound = λ s t g. record { fits = g.fits; says = says s t g };
               grows = λ b f. omega (arith, now_holding b f);
-              calm = λ z. (calm_clear z).0;
-              apart = λ z a f. omega (arith, bit_and_lem f r.on r.off, off_in_lem (calm_clear z).1 f, bit_le f r.on, bit_le f r.off);
+              apart = λ a f. omega (arith, bit_and_lem f r.on r.off, off_in_lem e f, bit_le f r.on, bit_le f r.off);
             };
         told = now_failing;
       }
+
+  -- some fact is
+  pub opposed_none : (bit_and r.on r.off ≡ 0 → ⊥) → NoneIn (λ s. T (not (meets s c))) x
+  opposed_none n s t g = n (no_bits _ both)
     where
-      both : (s : ℕ) → ((b : Bool) (f : ℕ) → bit f (holding b r) ≡ 1 → bit f s ≡ value b) → (f : ℕ) → bit f (bit_and r.on r.off) ≡ 0
-      both s h f =
+      h : (b : Bool) (f : ℕ) → bit f (holding b r) ≡ 1 → bit f s ≡ value b
+      h = says s t g
+
+      both : (f : ℕ) → bit f (bit_and r.on r.off) ≡ 0
+      both f =
           elim (dec_lt (bit f r.on) 1) [
             | yes l ↦ omega (arith, bit_and_lem f r.on r.off)
             | no l ↦ elim (dec_lt (bit f r.off) 1) [
@@ -125,23 +98,22 @@ against c r told s g = not_of (meets s c) (λ t. never_met (met_by_lem s c t))
 
 -- ---- then the others
 
-module _ (two : Bool) (P : Clause → Type 0) (c : Clause) (x y : Assignment) (o : Opposed c x y) where
-  -- nothing new, or a conflict: no look is needed
-  pub assumed_conflict : y.conflict ≡ true → Assumed two P c x y
-  assumed_conflict t = record {
-    goes = going_under (λ s p. p.1) o.goes;
-    told = o.told;
-    settled = λ z. absurd (true≢false (sym t ∙ z));
-  }
+-- no state is left by a conflict at once
+pub assumed_conflict : (P : Clause → Type 0) (c : Clause) {x : Assignment} → NoneIn (λ s. T (not (meets s c))) x
+    → NoneIn (λ s. Meets P s × T (not (meets s c))) x
+assumed_conflict P c n s m g = n s m.1 g
 
-  pub assumed_same : Alike two x y → Assumed two P c x y
+module _ (two : Bool) (P : Clause → Type 0) (c : Clause) (x y : Assignment) (o : OpposedTo c x y) where
+  -- nothing new: no look is needed
+  pub assumed_same : Alike two x y → AssumedTo two P c x y
   assumed_same e =
-      record { goes = going_under (λ s p. p.1) o.goes; told = o.told; settled = λ z h. alike two x y {P = P} e o.goes.grows h }
+      record { goes = going_under (λ s p. p.1) o.goes; told = o.told; settled = λ h. alike two x y {P = P} e o.goes.grows h }
 
-  pub assumed_solved : (r : Assignment) → Solved two P y r → Assumed two P c x r
-  assumed_solved r v =
+  pub assumed_solved : (r : Option Assignment) → Solved two P y r → Assumed two P c x r
+  assumed_solved None v = λ s m g. v s m.0 (o.goes.sound s m.1 g)
+  assumed_solved (Some r) v =
       record {
         goes = going_more (λ s p. (p.1, p.0)) o.goes v.goes;
         told = λ b f h. omega (arith, o.told b f h, v.goes.grows (not b) f, bit_le f (holding (not b) r));
-        settled = λ z h. v.settled z;
+        settled = λ h. v.settled;
       }

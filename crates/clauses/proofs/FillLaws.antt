@@ -1,4 +1,4 @@
--- A calm assignment that has the clauses settled leaves a state open that meets them: Horn, the facts that are on;
+-- An assignment that has the clauses settled leaves a state open that meets them: Horn, the facts that are on;
 -- two-literal, any model with what the assignment says put in; and where no fact is open, the facts that are on.
 -- Assumes nothing.
 use Prim.Native.Nat.{ℕ, ◌+◌, ◌≤◌, ◌<◌, ◌^◌}
@@ -32,10 +32,10 @@ meets_settled : (P : Clause → Type 0) (r : Assignment) (s : ℕ) → Agrees s 
     → ((c : Clause) → P c → Wide r c → T (meets s c)) → Meets P s
 meets_settled P r s g h k c p = ⊎_elim (held_met r s c g) (k c p) (h c p)
 
-module _ (r : Assignment) (fits : r.on < 2 ^ 64) (calm : r.conflict ≡ false) (apart : Apart r) where
+module _ (r : Assignment) (fits : r.on < 2 ^ 64) (apart : Apart r) where
   -- the facts that are on agree
   pub on_agrees : Agrees r.on r
-  on_agrees = record { calm = calm; fits = fits; says = says }
+  on_agrees = record { fits = fits; says = says }
     where
       says : (b : Bool) (f : ℕ) → bit f (holding b r) ≡ 1 → bit f r.on ≡ value b
       says true f e = e
@@ -46,12 +46,12 @@ module _ (r : Assignment) (fits : r.on < 2 ^ 64) (calm : r.conflict ≡ false) (
   horn_fills P settled horn c p =
       ⊎_elim (held_met r r.on c on_agrees) (λ w. by_met r.on c false w.fact w.has w.not_on) (settled c p (horn c p))
 
-module _ (P : Clause → Type 0) (r : Assignment) (fits : r.on < 2 ^ 64) (calm : r.conflict ≡ false) (apart : Apart r)
+module _ (P : Clause → Type 0) (r : Assignment) (fits : r.on < 2 ^ 64) (apart : Apart r)
     (settled : Settled true P r) where
   -- no fact is open
   pub full_fills : ((f : ℕ) → f < 64 → 1 ≤ bit f r.on + bit f r.off) → Meets P r.on
   full_fills full =
-      meets_settled P r r.on (on_agrees r fits calm apart) settled
+      meets_settled P r r.on (on_agrees r fits apart) settled
       (λ c p w.
       let l = low _ _ (w.fits w.side₁) w.has₁ in
       by_met r.on c w.side₁ w.fact₁ w.has₁ (is w.side₁ w.fact₁ l w.open₁))
@@ -70,7 +70,7 @@ module _ (P : Clause → Type 0) (r : Assignment) (fits : r.on < 2 ^ 64) (calm :
 
     pub overlay_agrees : Agrees overlay r
     unfolding overlay with_it
-    overlay_agrees = record { calm = calm; fits = after_lt 64 with_it s hs fits; says = says }
+    overlay_agrees = record { fits = after_lt 64 with_it s hs fits; says = says }
       where
         says : (b : Bool) (f : ℕ) → bit f (holding b r) ≡ 1 → bit f (after with_it s) ≡ value b
         says true f e = add_wins with_it s f e
@@ -98,11 +98,11 @@ module _ (P : Clause → Type 0) (r : Assignment) (fits : r.on < 2 ^ 64) (calm :
 -- ---- so the clauses can be filled
 
 pub horn_fillable : (P : Clause → Type 0) → ((c : Clause) → P c → Shaped false c) → Fillable false P
-horn_fillable P h r fits calm apart settled = (r.on, on_agrees r fits calm apart, horn_fills r fits calm apart P settled h)
+horn_fillable P h r fits apart settled = (r.on, on_agrees r fits apart, horn_fills r fits apart P settled h)
 
 pub two_fillable : (P : Clause → Type 0) → ((c : Clause) → P c → Shaped true c) → (s : ℕ) → s < 2 ^ 64 → Meets P s → Fillable true P
-two_fillable P h s hs m r fits calm apart settled = (
-  overlay P r fits calm apart settled s hs m,
-  overlay_agrees P r fits calm apart settled s hs m,
-  two_fills P r fits calm apart settled s hs m h,
+two_fillable P h s hs m r fits apart settled = (
+  overlay P r fits apart settled s hs m,
+  overlay_agrees P r fits apart settled s hs m,
+  two_fills P r fits apart settled s hs m h,
 )

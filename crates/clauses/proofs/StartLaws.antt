@@ -2,7 +2,7 @@
 -- it then tells.
 -- Assumes nothing.
 use Prim.Native.Nat.{ℕ, ◌+◌, ◌-◌, ◌≤◌, ◌<◌, ◌^◌}
-use mathlib.Core.Path.{◌≡◌, refl, sym, ap, subst, ◌∙◌}
+use mathlib.Core.Path.{◌≡◌, sym, ap, subst, ◌∙◌}
 use mathlib.Core.Bool.{Bool, true, false, not, true≢false}
 use mathlib.Core.List.{List}
 use native.Mathlib.Omega.{arith}
@@ -23,14 +23,14 @@ use Rattle.counterexample.specs.Counter.{seen}
 use Rattle.certificate.specs.declared.BasicEntry.{BasicEntry}
 use Rattle.certificate.specs.declared.BasicEntry.TheVariants.{Empty, Init, Goal, Explicit, Horn, TwoCnf}
 use Rattle.leaves.specs.declared.Leaf.{Leaf}
-use Rattle.leaves.specs.Leaves.{leaf_in, leaves_in}
+use Rattle.leaves.specs.Leaves.{leaf_in}
 use Rattle.leaves.specs.Lists.{Each, leaf_holds, Countered}
-use Rattle.leaves.proofs.ListLaws.{each_at, each_of}
+use Rattle.propagation.proofs.LeavesLaws.{each_in, each_from}
 use Rattle.propagation.specs.declared.Assignment.{Assignment}
 use Rattle.propagation.specs.declared.Setting.{Setting}
 use Rattle.propagation.specs.Clauses.{LeafOf, LeftOf, UnlistedSet, Unlisted, ClausalSet, Clausal, Usable}
-use Rattle.propagation.specs.Propagation.{holding, value, Agrees, Meets, Tells, Solved}
-use Rattle.propagation.specs.Propagation.{Opposed, Fillable, Ready, Model, Worth, Witness, Sought}
+use Rattle.propagation.specs.Propagation.{holding, value, Agrees, Meets, Tells, NoneIn, SolvedTo}
+use Rattle.propagation.specs.Propagation.{OpposedTo, Fillable, Ready, Model, Worth, Witness, Sought}
 use Rattle.propagation.proofs.ClauseLaws.{Has, met_by_lem, fails_by}
 use Rattle.clauses.proofs.ClauseShapes.{Shaped}
 use Rattle.clauses.proofs.AssumeLaws.{against, agrees_before}
@@ -114,23 +114,24 @@ module _ (n : ℕ) (hn : n ≤ 64) (a : Action) (s : ℕ) where
 -- ---- from the start to the answer
 
 abbrev pub nothing : Assignment
-nothing = record { on = 0; off = 0; conflict = false }
+nothing = record { on = 0; off = 0 }
 
 nothing_agrees : (s : ℕ) → s < 2 ^ 64 → Agrees s nothing
-nothing_agrees s l = record { calm = refl; fits = l; says = says }
+nothing_agrees s l = record { fits = l; says = says }
   where
     says : (b : Bool) (f : ℕ) → bit f (holding b nothing) ≡ 1 → bit f s ≡ value b
     says true f e = absurd (omega (arith, bit_none f))
     says false f e = absurd (omega (arith, bit_none f))
 
+module _ (n : ℕ) (hn : n ≤ 64) (a : Action) (s : ℕ) (low : s < 2 ^ n) (allowed : T (applies a s)) where
+  -- a state in which the action applies is there at the start
+  starts_open : T (not (meets s (start_clause n a))) × Agrees s nothing
+  starts_open = (start_fails n hn a s low allowed, nothing_agrees s (omega (arith, low, pow_mono {i = n} {j = 64} hn)))
+
 module _ (two : Bool) (P : Clause → Type 0) (n : ℕ) (hn : n ≤ 64) (a : Action) (x y : Assignment)
-    (o : Opposed (start_clause n a) nothing x) (u : Solved two P x y) where
+    (o : OpposedTo (start_clause n a) nothing x) (u : SolvedTo two P x y) where
   pub start_ready : Ready two P y
-  start_ready =
-      record {
-        apart = λ z. u.goes.apart z (o.goes.apart (u.goes.calm z) (λ f. omega (arith, bit_none f)));
-        settled = u.settled;
-      }
+  start_ready = record { apart = u.goes.apart (o.goes.apart (λ f. omega (arith, bit_none f))); settled = u.settled }
 
   -- a witness from there is a state in which the action applies; and such a state is a witness
   witness_starts : {Q : ℕ → Clause → Type 0} (w : Witness P Q 0 y) → (w.state < 2 ^ n) × T (applies a w.state)
@@ -140,8 +141,8 @@ module _ (two : Bool) (P : Clause → Type 0) (n : ℕ) (hn : n ≤ 64) (a : Act
 
   starts_agrees : (s : ℕ) → s < 2 ^ n → T (applies a s) → Meets P s → Agrees s y
   starts_agrees s low allowed m =
-      u.goes.sound s m (o.goes.sound s (start_fails n hn a s low allowed)
-      (nothing_agrees s (omega (arith, low, pow_mono {i = n} {j = 64} hn))))
+      let t = starts_open n hn a s low allowed in
+      u.goes.sound s m (o.goes.sound s t.0 t.1)
 
 -- ---- what the search tells of the leaves
 
@@ -153,11 +154,9 @@ clausal_unlisted bytes two (Explicit x) h = absurd h
 clausal_unlisted bytes two (Horn x) h = tt
 clausal_unlisted bytes two (TwoCnf x) h = tt
 
-module _ (bytes left right : List ℕ) (k : Setting) (words : InWords k.ends) (hn : k.ends.facts ≤ 64)
-    (add : k.action.add < 2 ^ k.ends.facts) (usable : Usable bytes left k.m k.two)
-    (pair : 2 ≤ length right) (unlisted : Each Unlisted (leaves_in right 2))
-    (x y : Assignment) (o : Opposed (start_clause k.ends.facts k.action) nothing x)
-    (u : Solved k.two (LeftOf bytes left k) x y) where
+module _ (bytes : List ℕ) (left right : List Leaf) (k : Setting) (words : InWords k.ends) (hn : k.ends.facts ≤ 64)
+    (add : k.action.add < 2 ^ k.ends.facts) (usable : Usable bytes left k.two)
+    (pair : length right ≡ 2) (unlisted : Each Unlisted right) where
   -- the leaf holds the state that it is asked about
   Holding : ℕ → Leaf → Type 0
   Holding s x = T (leaf_holds bytes k.ends k.action s x)
@@ -169,69 +168,85 @@ module _ (bytes left right : List ℕ) (k : Setting) (words : InWords k.ends) (h
   seen_low true s l = omega (arith, after_lt k.ends.facts k.action s l add, pow_mono {i = k.ends.facts} {j = 64} hn)
   seen_low false s l = omega (arith, pow_mono {i = k.ends.facts} {j = 64} hn)
 
-  left_unlisted : (j : ℕ) → j < k.m → Unlisted (leaf_in left j)
+  left_unlisted : (j : ℕ) → j < length left → Unlisted (leaf_in left j)
   left_unlisted j l =
-      clausal_unlisted bytes k.two (leaf_in left j).set (each_at (Clausal bytes k.two) left k.m usable.0 usable.1 j l)
+      clausal_unlisted bytes k.two (leaf_in left j).set (each_in (Clausal bytes k.two) left usable j l)
 
   -- what the search tells of
   abbrev Untrue : Type 0
-  Untrue = Countered bytes k.ends k.action (leaves_in left k.m) (leaves_in right 2)
+  Untrue = Countered bytes k.ends k.action left right
 
-  to_countered : Witness (LeftOf bytes left k) (LeafOf bytes right k) 0 y → Untrue
-  unfolding Holding Failing
-  to_countered w =
-      let s = w.state in
-      let r = witness_starts k.two _ k.ends.facts hn k.action x y o u w in
-      record {
-        state = s;
-        low = r.0;
-        allowed = r.1;
-        holds = each_of (Holding s) left k.m usable.0 (λ j l.
-            (leaf_meets bytes k.ends words k.action _ (left_unlisted j l) s (seen_low (leaf_in left j).after s r.0)).1
-            (λ c p. w.meets_left c (j, l, p)));
-        fails = each_of (Failing s) right 2 pair (λ j l.
-            (leaf_fails bytes k.ends words k.action _ (each_at Unlisted right 2 pair unlisted j l) s
-            (seen_low (leaf_in right j).after s r.0)).1
-            (w.fails j (omega arith) l));
-      }
-
-  of_countered : Untrue → Witness (LeftOf bytes left k) (LeafOf bytes right k) 0 y
-  unfolding Holding Failing
-  of_countered r =
+  -- so each left clause is met
+  left_meets : (r : Untrue) → Meets (LeftOf bytes left k) r.state
+  unfolding Holding
+  left_meets r c (j, l, p) =
       let s = r.state in
-      let m : Meets (LeftOf bytes left k) s = (λ c (j, l, p).
       (leaf_meets bytes k.ends words k.action _ (left_unlisted j l) s (seen_low (leaf_in left j).after s r.low)).0
-      (each_at (Holding s) left k.m usable.0 r.holds j l) c p) in
-      record {
-        state = s;
-        agrees = starts_agrees k.two _ k.ends.facts hn k.action x y o u s r.low r.allowed m;
-        meets_left = m;
-        fails = λ j _ l.
-            (leaf_fails bytes k.ends words k.action _ (each_at Unlisted right 2 pair unlisted j l) s
-            (seen_low (leaf_in right j).after s r.low)).0
-            (each_at (Failing s) right 2 pair r.fails j l);
-      }
+      (each_in (Holding s) left r.holds j l) c p
 
-  -- a candidate was found, and it is known whether it can be filled up
-  pub tells_worth : {t r : Bool} → Sought k.two t (LeftOf bytes left k) (LeafOf bytes right k) 0 y → T t
-      → Worth k.two (LeftOf bytes left k) y r → Tells r Untrue
-  tells_worth found e w =
-      record {
-        finds = λ t. to_countered (candidate_fills k.two _ _ (w.fills t) (found.finds e));
-        sees = λ r. let v = of_countered r in w.sees (v.state, v.agrees, v.meets_left);
-      }
+  -- the action applies in no state, or in none that meets the left clauses
+  pub tells_stuck : NoneIn (λ s. T (not (meets s (start_clause k.ends.facts k.action)))) nothing → Tells false Untrue
+  tells_stuck n =
+      tells_no (λ r. let t = starts_open k.ends.facts hn k.action r.state r.low r.allowed in n r.state t.0 t.1)
 
-  -- none was found
-  pub tells_none : {t : Bool} → Sought k.two t (LeftOf bytes left k) (LeafOf bytes right k) 0 y → t ≡ false
+  pub tells_unmet : (x : Assignment) → OpposedTo (start_clause k.ends.facts k.action) nothing x → NoneIn (Meets (LeftOf bytes left k)) x
       → Tells false Untrue
-  tells_none found e = tells_no (λ r. sought_not k.two _ _ found e (of_countered r))
+  tells_unmet x o n =
+      tells_no (λ r.
+      let t = starts_open k.ends.facts hn k.action r.state r.low r.allowed in
+      n r.state (left_meets r) (o.goes.sound r.state t.0 t.1))
+
+  module _ (x y : Assignment) (o : OpposedTo (start_clause k.ends.facts k.action) nothing x)
+      (u : SolvedTo k.two (LeftOf bytes left k) x y) where
+    to_countered : Witness (LeftOf bytes left k) (LeafOf bytes right k) 0 y → Untrue
+    unfolding Holding Failing
+    to_countered w =
+        let s = w.state in
+        let r = witness_starts k.two _ k.ends.facts hn k.action x y o u w in
+        record {
+          state = s;
+          low = r.0;
+          allowed = r.1;
+          holds = each_from (Holding s) left (λ j l.
+              (leaf_meets bytes k.ends words k.action _ (left_unlisted j l) s (seen_low (leaf_in left j).after s r.0)).1
+              (λ c p. w.meets_left c (j, l, p)));
+          fails = each_from (Failing s) right (λ j l.
+              (leaf_fails bytes k.ends words k.action _ (each_in Unlisted right unlisted j l) s
+              (seen_low (leaf_in right j).after s r.0)).1
+              (w.fails j (omega arith) (omega arith)));
+        }
+
+    of_countered : Untrue → Witness (LeftOf bytes left k) (LeafOf bytes right k) 0 y
+    unfolding Failing
+    of_countered r =
+        let s = r.state in
+        record {
+          state = s;
+          agrees = starts_agrees k.two _ k.ends.facts hn k.action x y o u s r.low r.allowed (left_meets r);
+          meets_left = left_meets r;
+          fails = λ j _ l.
+              (leaf_fails bytes k.ends words k.action _ (each_in Unlisted right unlisted j (omega arith)) s
+              (seen_low (leaf_in right j).after s r.low)).0
+              (each_in (Failing s) right r.fails j (omega arith));
+        }
+
+    -- a candidate was found, and it is known whether it can be filled up
+    pub tells_worth : {t r : Bool} → Sought k.two t (LeftOf bytes left k) (LeafOf bytes right k) 0 y → T t
+        → Worth k.two (LeftOf bytes left k) y r → Tells r Untrue
+    tells_worth found e w =
+        record {
+          finds = λ t. to_countered (candidate_fills k.two _ _ (w.fills t) (found.finds e));
+          sees = λ r. let v = of_countered r in w.sees (v.state, v.agrees, v.meets_left);
+        }
+
+    -- none was found
+    pub tells_none : {t : Bool} → Sought k.two t (LeftOf bytes left k) (LeafOf bytes right k) 0 y → t ≡ false
+        → Tells false Untrue
+    tells_none found e = tells_no (λ r. sought_not k.two _ _ found e (of_countered r))
 
 -- ---- whether it is worth while
 
-pub worth_conflict : {two : Bool} {P : Clause → Type 0} {x : Assignment} → x.conflict ≡ true → Worth two P x false
-worth_conflict t = record { fills = λ e. absurd e; sees = λ q. true≢false (sym t ∙ q.1.calm) }
-
-module _ (bytes leaves : List ℕ) (k : Setting) (u : Usable bytes leaves k.m k.two) (x : Assignment) where
+module _ (bytes : List ℕ) (leaves : List Leaf) (k : Setting) (u : Usable bytes leaves k.two) (x : Assignment) where
   pub worth_two : {r : Bool} → k.two ≡ true → Tells r (Model (LeftOf bytes leaves k) x) → Worth k.two (LeftOf bytes leaves k) x r
   worth_two {r} e t =
       record {

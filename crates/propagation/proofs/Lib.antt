@@ -1,3 +1,4 @@
+pub mod LeavesLaws
 pub mod OneFact
 pub mod ClauseLaws
 pub mod UnitLaws

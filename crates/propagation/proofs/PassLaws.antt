@@ -12,16 +12,17 @@ use lib.Dec.{T, eqb, eqb→eq}
 use Rattle.task.proofs.Tests.{and_left, and_right, and_both, implied, holds, is_true, same}
 use Rattle.task.specs.Inner.{bit}
 use Rattle.task.proofs.Bits.{bit_le, bit_high, bit_or_lem, same_bits}
+use Rattle.std.specs.Prelude.{Option, Some, None}
 use Rattle.meaning.specs.declared.Clause.{Clause}
 use Rattle.propagation.specs.declared.Assignment.{Assignment}
 use Rattle.propagation.specs.Clauses.{Below}
 use Rattle.propagation.specs.Propagation.{mask, holding, failing, Meets, Held, Wide, Waiting, OneHead, Quiet}
-use Rattle.propagation.specs.Propagation.{Settled, Alike, Spared, Untouched, Tells, Going, Grown, Looked, Passed, Solved}
+use Rattle.propagation.specs.Propagation.{Settled, Alike, Spared, Untouched, Tells, Going, NoneIn, Grown, Looked, PassedTo, Passed, SolvedTo}
 
 -- ---- what goes on
 
 pub going_none : (S : ℕ → Type 0) (x : Assignment) → Going S x x
-going_none S x = record { sound = λ s m g. g; grows = λ b f. le_refl _; calm = λ z. z; apart = λ z a. a }
+going_none S x = record { sound = λ s m g. g; grows = λ b f. le_refl _; apart = λ a. a }
 
 -- one after the other, over the states that both keep
 pub going_more : {S S' S'' : ℕ → Type 0} {x y r : Assignment} → ((s : ℕ) → S'' s → S s × S' s) → Going S x y → Going S' y r → Going S'' x r
@@ -29,13 +30,12 @@ going_more h u v =
     record {
       sound = λ s m g. v.sound s (h s m).1 (u.sound s (h s m).0 g);
       grows = λ b f. le_trans (u.grows b f) (v.grows b f);
-      calm = λ z. u.calm (v.calm z);
-      apart = λ z a. v.apart z (u.apart (v.calm z) a);
+      apart = λ a. v.apart (u.apart a);
     }
 
 -- over fewer states
 pub going_under : {S S' : ℕ → Type 0} {x r : Assignment} → ((s : ℕ) → S' s → S s) → Going S x r → Going S' x r
-going_under h u = record { sound = λ s m g. u.sound s (h s m) g; grows = u.grows; calm = u.calm; apart = u.apart }
+going_under h u = record { sound = λ s m g. u.sound s (h s m) g; grows = u.grows; apart = u.apart }
 
 -- ---- settled clauses stay so
 
@@ -131,65 +131,61 @@ looked_settled {two} {x} {r} {c} e l =
 -- ---- one look at each
 
 -- a look at clauses in general does for Horn clauses too
-pub passed_any : (two : Bool) {P : Clause → Type 0} {x r : Assignment} → Passed true P x r → Passed two P x r
-passed_any two u =
+pub passed_any : (two : Bool) (P : Clause → Type 0) (x : Assignment) (r : Option Assignment) → Passed true P x r → Passed two P x r
+passed_any two P x None u = u
+passed_any two P x (Some y) u =
     record {
       goes = u.goes;
-      looked = λ z c p.
-          let l = u.looked z c p in
+      looked = λ c p.
+          let l = u.looked c p in
           record { seen = l.seen; after = l.after; until = l.until; settled = quiet_any two l.settled };
     }
 
--- after a conflict the other clauses need no look
-pub passed_cut : {two : Bool} {P Q : Clause → Type 0} {x r : Assignment} → ((c : Clause) → P c → Q c) → r.conflict ≡ true
-    → Passed two P x r → Passed two Q x r
-passed_cut to t u = record { goes = going_under (λ s m c p. m c (to c p)) u.goes; looked = λ z. absurd (true≢false (sym t ∙ z)) }
-
 -- no clause at all
-pub passed_none : {two : Bool} (P : ℕ → Clause → Type 0) (x : Assignment) → Passed two (Below P 0) x x
-passed_none P x = record { goes = going_none (Meets (Below P 0)) x; looked = λ z c p. absurd (omega (arith, p.1)) }
+pub passed_none : {two : Bool} (P : ℕ → Clause → Type 0) (x : Assignment) → PassedTo two (Below P 0) x x
+passed_none P x = record { goes = going_none (Meets (Below P 0)) x; looked = λ c p. absurd (omega (arith, p.1)) }
 
 -- one family of clauses more
-pub passed_more : {two : Bool} (P : ℕ → Clause → Type 0) {x y r : Assignment} (i : ℕ) → Passed two (Below P i) x y
-    → Passed two (P i) y r → Passed two (Below P (i + 1)) x r
+pub passed_more : {two : Bool} (P : ℕ → Clause → Type 0) {x y r : Assignment} (i : ℕ) → PassedTo two (Below P i) x y
+    → PassedTo two (P i) y r → PassedTo two (Below P (i + 1)) x r
 passed_more P {x} {y} {r} i u v =
     record {
       goes = going_more {S = Meets (Below P i)} {S' = Meets (P i)}
           (λ s m. ((λ c p. m c (p.0, omega (arith, p.1), p.2)), (λ c p. m c (i, omega arith, p)))) u.goes v.goes;
-      looked = λ z c p. elim (dec_lt p.0 i) [
-        | yes l ↦ looked_longer (λ s f. le_refl _) v.goes.grows (u.looked (v.goes.calm z) c (p.0, l, p.2))
+      looked = λ c p. elim (dec_lt p.0 i) [
+        | yes l ↦ looked_longer (λ s f. le_refl _) v.goes.grows (u.looked c (p.0, l, p.2))
         | no l ↦
             let q : p.0 ≡ i = omega (arith, p.1) in
-            looked_longer u.goes.grows (λ s f. le_refl _) (v.looked z c (subst (λ (k : ℕ). P k c) q p.2))
+            looked_longer u.goes.grows (λ s f. le_refl _) (v.looked c (subst (λ (k : ℕ). P k c) q p.2))
       ];
     }
 
 -- families that need no look
-pub passed_past : {two : Bool} (P : ℕ → Clause → Type 0) {x y : Assignment} (i k : ℕ) → i ≤ k → Passed two (Below P i) x y
-    → ((j : ℕ) → i ≤ j → j < k → Passed two (P j) y y) → Passed two (Below P k) x y
+pub passed_past : {two : Bool} (P : ℕ → Clause → Type 0) {x y : Assignment} (i k : ℕ) → i ≤ k → PassedTo two (Below P i) x y
+    → ((j : ℕ) → i ≤ j → j < k → PassedTo two (P j) y y) → PassedTo two (Below P k) x y
 passed_past P {x} {y} i k l u v =
     record {
       goes = going_under (λ s m c p. m c (p.0, omega (arith, p.1), p.2)) u.goes;
-      looked = λ z c p. elim (dec_lt p.0 i) [
-        | yes h ↦ u.looked z c (p.0, h, p.2)
-        | no h ↦ looked_longer u.goes.grows (λ s f. le_refl _) ((v p.0 (omega arith) p.1).looked z c p.2)
+      looked = λ c p. elim (dec_lt p.0 i) [
+        | yes h ↦ u.looked c (p.0, h, p.2)
+        | no h ↦ looked_longer u.goes.grows (λ s f. le_refl _) ((v p.0 (omega arith) p.1).looked c p.2)
       ];
     }
 
--- the last before a conflict
-pub passed_early : {two : Bool} (P : ℕ → Clause → Type 0) {x y r : Assignment} (i k : ℕ) → i < k → r.conflict ≡ true
-    → Passed two (Below P i) x y → Passed two (P i) y r → Passed two (Below P k) x r
-passed_early P i k l t u v = passed_cut (λ c p. (p.0, omega (arith, p.1), p.2)) t (passed_more P i u v)
+-- a conflict at one family, where there are more
+pub passed_early : {two : Bool} (P : ℕ → Clause → Type 0) {x y : Assignment} (i k : ℕ) → i < k → PassedTo two (Below P i) x y
+    → NoneIn (Meets (P i)) y → NoneIn (Meets (Below P k)) x
+passed_early P i k l u v s m g =
+    v s (λ c p. m c (i, l, p)) (u.goes.sound s (λ c p. m c (p.0, omega (arith, p.1), p.2)) g)
 
 -- ---- until nothing changes
 
-pub solved_conflict : {two : Bool} {P : Clause → Type 0} {x y r : Assignment} → Going (Meets P) x y → Passed two P y r
-    → r.conflict ≡ true → Solved two P x r
-solved_conflict u v t = record { goes = going_more (λ s m. (m, m)) u v.goes; settled = λ z. absurd (true≢false (sym t ∙ z)) }
+pub solved_conflict : {P : Clause → Type 0} {x y : Assignment} → Going (Meets P) x y → NoneIn (Meets P) y → NoneIn (Meets P) x
+solved_conflict u v s m g = v s m (u.sound s m g)
 
-pub solved_fixed : {two : Bool} {P : Clause → Type 0} {x y r : Assignment} → Going (Meets P) x y → Passed two P y r → Alike two y r
-    → Solved two P x r
-solved_fixed u v e = record { goes = going_more (λ s m. (m, m)) u v.goes; settled = λ z c p. looked_settled e (v.looked z c p) }
+pub solved_fixed : {two : Bool} {P : Clause → Type 0} {x y r : Assignment} → Going (Meets P) x y → PassedTo two P y r → Alike two y r
+    → SolvedTo two P x r
+solved_fixed u v e = record { goes = going_more (λ s m. (m, m)) u v.goes; settled = λ c p. looked_settled e (v.looked c p) }
 
 -- more facts, a larger number
 pub grows_le : (a b : ℕ) → ((f : ℕ) → bit f a ≤ bit f b) → a ≤ b

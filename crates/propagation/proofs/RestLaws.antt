@@ -16,7 +16,10 @@ use Rattle.meaning.specs.declared.Clause.{Clause}
 use Rattle.propagation.specs.declared.Assignment.{Assignment}
 use Rattle.propagation.specs.declared.Effect.{Effect}
 use Rattle.propagation.specs.Clauses.{met_by, pulled_by, Only, Below, OfWords}
-use Rattle.propagation.specs.Propagation.{mask, failing, Held, Wide, Quiet, Going, Grown, Looked, Passed, Spared, Untouched, Based}
+use Rattle.propagation.specs.Propagation.{mask, failing, Held, Wide, Quiet, Going, Grown, Looked, PassedTo, Spared, Untouched, Based, since}
+use Rattle.std.specs.Prelude.{Option, Some, None}
+use Rattle.certificate.specs.declared.Span.{Span}
+use Rattle.words.specs.declared.Masks.{Masks}
 use Rattle.words.specs.Words.{words_at, Misses, MissedAt}
 use Rattle.propagation.proofs.OneFact.{bit_same}
 use Rattle.propagation.proofs.PassLaws.{going_none, stays, quiet_any, looked_longer, passed_past}
@@ -32,8 +35,8 @@ spared_by s b x c e f h t =
       | no l ↦ omega (arith, bit_le f (failing s b))
     ]
 
-missed_untouched : {two : Bool} (b x : Assignment) (c : Clause) → Misses two (without x.off b.off) (without x.on b.on) c
-    → Untouched two b x c
+missed_untouched : {two : Bool} (b x : Assignment) (c : Clause) → Misses (since two b x) c → Untouched two b x c
+unfolding since
 missed_untouched b x c m = ((λ t. spared_by true b x c (m.0 t)), spared_by false b x c m.1)
 
 -- ---- what stays settled
@@ -84,11 +87,11 @@ pulled_stays two k b x w g u = go (met_by k w)
 
 -- a clause that is not looked at
 passed_rest : {two : Bool} (k : Effect) (b x : Assignment) (w : Clause) → Untouched two b x w → Looked two b x (pulled_by k w)
-    → Passed two (Only (pulled_by k w)) x x
+    → PassedTo two (Only (pulled_by k w)) x x
 passed_rest {two} k b x w u l =
     record {
       goes = going_none _ x;
-      looked = λ z d q.
+      looked = λ d q.
           record {
             seen = x;
             after = λ s f. le_refl _;
@@ -104,16 +107,16 @@ passed_rest {two} k b x w u l =
 -- ---- what looks may rest on
 
 -- x may grow, and there may be fewer clauses
-pub based_on : {two : Bool} {P Q : Clause → Type 0} {full : Bool} {S : ℕ → Type 0} {b x y : Assignment} → ((c : Clause) → Q c → P c)
-    → Based two P full b x → Going S x y → Based two Q full b y
-based_on to r g e c q = looked_longer (λ s f. le_refl _) g.grows (r e c (to c q))
+pub based_on : (two : Bool) {P Q : Clause → Type 0} (base : Option Assignment) {S : ℕ → Type 0} {x y : Assignment}
+    → ((c : Clause) → Q c → P c) → Based two P base x → Going S x y → Based two Q base y
+based_on two None to r g = tt
+based_on two (Some b) to r g = λ c q. looked_longer (λ s f. le_refl _) g.grows (r c (to c q))
 
 -- clauses that miss what came to fail since the base need no look
-pub passed_missed : {two : Bool} (bytes : List ℕ) (at count : ℕ) (by : Effect) (b x y : Assignment) (i k off on : ℕ)
-    → Based two (Below (OfWords bytes at by) count) false b x → i ≤ k → k ≤ count
-    → off ≡ without y.off b.off → on ≡ without y.on b.on → MissedAt bytes at two off on i k
-    → Passed two (Below (OfWords bytes at by) i) x y → Passed two (Below (OfWords bytes at by) k) x y
-passed_missed bytes at count by b x y i k off on r l h p q m u =
-    passed_past (OfWords bytes at by) i k l u (λ j g n.
-    passed_rest by b y (words_at bytes at j) (missed_untouched b y (words_at bytes at j) (rw (p, q) at (m j g n)))
-    (based_on {Q = OfWords bytes at by j} (λ d e. (j, omega arith, e)) r u.goes refl _ refl))
+pub passed_missed : {two : Bool} (bytes : List ℕ) (s : Span) (by : Effect) (b x y : Assignment) (i k : ℕ) {m : Masks}
+    → Based two (Below (OfWords bytes s.at by) s.count) (Some b) x → i ≤ k → k ≤ s.count → m ≡ since two b y → MissedAt bytes s.at m i k
+    → PassedTo two (Below (OfWords bytes s.at by) i) x y → PassedTo two (Below (OfWords bytes s.at by) k) x y
+passed_missed {two} bytes s by b x y i k r l h e m u =
+    passed_past (OfWords bytes s.at by) i k l u (λ j g n.
+    passed_rest by b y (words_at bytes s.at j) (missed_untouched b y (words_at bytes s.at j) (rw e at (m j g n)))
+    (based_on two {Q = OfWords bytes s.at by j} (Some b) (λ d q. (j, omega arith, q)) r u.goes _ refl))

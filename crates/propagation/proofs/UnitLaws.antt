@@ -16,7 +16,7 @@ use Rattle.meaning.specs.declared.Clause.{Clause}
 use Rattle.propagation.specs.declared.Assignment.{Assignment}
 use Rattle.meaning.specs.Sets.{meets}
 use Rattle.propagation.specs.Clauses.{Only}
-use Rattle.propagation.specs.Propagation.{mask, holding, failing, value, Agrees, Apart, Held, Wide, Passed}
+use Rattle.propagation.specs.Propagation.{mask, holding, failing, value, Agrees, Apart, Held, Wide, Meets, NoneIn, PassedTo}
 use Rattle.propagation.proofs.OneFact.{off_in_lem, on_in, one_bit, two_bits}
 use Rattle.propagation.proofs.ClauseLaws.{Has, met_by_lem}
 
@@ -28,18 +28,14 @@ same_or_not false false = inl refl
 
 -- an assignment that says more on one side
 abbrev pub told : Bool → ℕ → Assignment → Assignment
-told true m x = record { on = bit_or x.on m; off = x.off; conflict = x.conflict }
-told false m x = record { on = x.on; off = bit_or x.off m; conflict = x.conflict }
+told true m x = record { on = bit_or x.on m; off = x.off }
+told false m x = record { on = x.on; off = bit_or x.off m }
 
 told_grows : (a : Bool) (m : ℕ) (x : Assignment) (b : Bool) (f : ℕ) → bit f (holding b x) ≤ bit f (holding b (told a m x))
 told_grows true m x true f = omega (arith, bit_or_lem f x.on m)
 told_grows true m x false f = le_refl _
 told_grows false m x true f = le_refl _
 told_grows false m x false f = omega (arith, bit_or_lem f x.off m)
-
-told_calm : (a : Bool) (m : ℕ) (x : Assignment) → (told a m x).conflict ≡ x.conflict
-told_calm true m x = refl
-told_calm false m x = refl
 
 -- what it says, it said before, or is new
 told_says : (a : Bool) (m : ℕ) (x : Assignment) (b : Bool) (f : ℕ) → bit f (holding b (told a m x)) ≡ 1
@@ -102,11 +98,11 @@ module _ {x : Assignment} {c : Clause} {lp ln : ℕ} (k : Left x c lp ln) where
             | no l ↦ absurd (omega (arith, g.says true f (omega (arith, bit_le f x.on))))
           ]
 
-  same : Held x c ⊎ Wide x c → Passed true (Only c) x x
+  same : Held x c ⊎ Wide x c → PassedTo true (Only c) x x
   same h =
       record {
-        goes = record { sound = λ s m g. g; grows = λ b f. le_refl _; calm = λ z. z; apart = λ z a. a };
-        looked = λ z d q.
+        goes = record { sound = λ s m g. g; grows = λ b f. le_refl _; apart = λ a. a };
+        looked = λ d q.
             record {
               seen = x;
               after = λ b f. le_refl _;
@@ -116,7 +112,7 @@ module _ {x : Assignment} {c : Clause} {lp ln : ℕ} (k : Left x c lp ln) where
       }
 
   -- a literal of the clause holds already
-  pub met_already : (bit_or (bit_and c.positive x.on) (bit_and c.negative x.off) ≡ 0 → ⊥) → Passed true (Only c) x x
+  pub met_already : (bit_or (bit_and c.positive x.on) (bit_and c.negative x.off) ≡ 0 → ⊥) → PassedTo true (Only c) x x
   met_already h =
       let r = on_in (bit_or (bit_and c.positive x.on) (bit_and c.negative x.off)) h in
       let f = r.0 in
@@ -136,7 +132,7 @@ module _ {x : Assignment} {c : Clause} {lp ln : ℕ} (k : Left x c lp ln) where
             same (inl (record { side = true; fact = f; has = omega arith; holds = omega arith }))
       ]
 
-  wide : (a b : Bool) (f g : ℕ) → (a ≡ b → f ≡ g → ⊥) → bit f (left a) ≡ 1 → bit g (left b) ≡ 1 → Passed true (Only c) x x
+  wide : (a b : Bool) (f g : ℕ) → (a ≡ b → f ≡ g → ⊥) → bit f (left a) ≡ 1 → bit g (left b) ≡ 1 → PassedTo true (Only c) x x
   wide a b f g d u v =
       let k = is_left a f u in
       let l = is_left b g v in
@@ -154,39 +150,25 @@ module _ {x : Assignment} {c : Clause} {lp ln : ℕ} (k : Left x c lp ln) where
       }))
 
   -- a literal is left on each side, or two on one
-  pub stays_open : (lp ≡ 0 → ⊥) → (ln ≡ 0 → ⊥) → Passed true (Only c) x x
+  pub stays_open : (lp ≡ 0 → ⊥) → (ln ≡ 0 → ⊥) → PassedTo true (Only c) x x
   stays_open h k = let u = on_in lp h in let v = on_in ln k in wide true false u.0 v.0 (λ e d. true≢false e) u.1 v.1
 
-  pub stays_wide : (a : Bool) → (left a ≡ 0 → ⊥) → (bit_and (left a) (left a - 1) ≡ 0 → ⊥) → Passed true (Only c) x x
+  pub stays_wide : (a : Bool) → (left a ≡ 0 → ⊥) → (bit_and (left a) (left a - 1) ≡ 0 → ⊥) → PassedTo true (Only c) x x
   stays_wide a some many =
       let r = two_bits (left a) (pos_of_ne-zero some) many in
       wide a a r.fact₁ r.fact₂ (λ e d. r.differ d) r.has₁ r.has₂
 
   -- no literal is left
-  pub conflicting : lp ≡ 0 → ln ≡ 0 → Passed true (Only c) x (record { on = x.on; off = x.off; conflict = true })
-  conflicting zp zn =
-      record {
-        goes =
-            record {
-              sound = λ s m g. absurd (none s (possible s g (m c refl)));
-              grows = unchanged;
-              calm = λ z. absurd (true≢false z);
-              apart = λ z. absurd (true≢false z);
-            };
-        looked = λ z. absurd (true≢false z);
-      }
+  pub conflicting : lp ≡ 0 → ln ≡ 0 → NoneIn (Meets (Only c)) x
+  conflicting zp zn s m g = none (possible s g (m c refl))
     where
-      none : (s : ℕ) → (b : Bool) × (f : ℕ) × (bit f (left b) ≡ 1) × (bit f s ≡ value b) → ⊥
-      none s (true, f, u, v) = omega (arith, off_in_lem zp f)
-      none s (false, f, u, v) = omega (arith, off_in_lem zn f)
-
-      unchanged : (b : Bool) (f : ℕ) → bit f (holding b x) ≤ bit f (holding b (record { on = x.on; off = x.off; conflict = true }))
-      unchanged true f = le_refl _
-      unchanged false f = le_refl _
+      none : (b : Bool) × (f : ℕ) × (bit f (left b) ≡ 1) × (bit f s ≡ value b) → ⊥
+      none (true, f, u, v) = omega (arith, off_in_lem zp f)
+      none (false, f, u, v) = omega (arith, off_in_lem zn f)
 
   -- one literal is left
   pub forces : (a : Bool) → left (not a) ≡ 0 → (left a ≡ 0 → ⊥) → bit_and (left a) (left a - 1) ≡ 0
-      → Passed true (Only c) x (told a (left a) x)
+      → PassedTo true (Only c) x (told a (left a) x)
   forces a none some one =
       record {
         goes =
@@ -194,7 +176,6 @@ module _ {x : Assignment} {c : Clause} {lp ln : ℕ} (k : Left x c lp ln) where
               sound = λ s m g.
                   let r = chosen s (possible s g (m c refl)) in
                   record {
-                    calm = told_calm a (left a) x ∙ g.calm;
                     fits = g.fits;
                     says = λ b f e. elim (told_says a (left a) x b f e) [
                       | inl h ↦ g.says b f h
@@ -202,10 +183,9 @@ module _ {x : Assignment} {c : Clause} {lp ln : ℕ} (k : Left x c lp ln) where
                     ];
                   };
               grows = told_grows a (left a) x;
-              calm = λ z. sym (told_calm a (left a) x) ∙ z;
-              apart = λ z. told_apart a (left a) x (λ f. omega (arith, in_left a f, bit_le f (failing a x)));
+              apart = told_apart a (left a) x (λ f. omega (arith, in_left a f, bit_le f (failing a x)));
             };
-        looked = λ z d q.
+        looked = λ d q.
             let y = told a (left a) x in
             let r = on_in (left a) some in
             record {

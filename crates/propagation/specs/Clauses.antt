@@ -1,7 +1,7 @@
 -- The clauses of a leaf: those of its set, read from the file where they stand there, and clauses of the state after an action as
 -- clauses of the state before it. Only the code's inner promises speak of this.
 -- Assumes nothing.
-use Rattle.std.specs.Prelude.{◌≡◌, ℕ, ◌+◌, ◌-◌, ◌*◌, ◌^◌, ◌<◌, ◌≤◌, Bool, true, false, not, ◌||◌, List, length, eqb}
+use Rattle.std.specs.Prelude.{◌≡◌, ℕ, ◌+◌, ◌-◌, ◌*◌, ◌^◌, ◌<◌, ◌≤◌, Bool, true, false, not, ◌||◌, List, length, eqb, Option, Some, None}
 use Rattle.std.specs.Int.Bits.{bit_and, bit_or}
 use Rattle.task.specs.declared.Action.{Action}
 use Rattle.task.specs.declared.Ends.{Ends}
@@ -12,13 +12,12 @@ use Rattle.words.specs.Words.{words_at}
 use Rattle.certificate.specs.declared.BasicEntry.{BasicEntry}
 use Rattle.certificate.specs.declared.BasicEntry.TheVariants.{Empty, Init, Goal, Explicit, Horn, TwoCnf}
 use Rattle.leaves.specs.declared.Leaf.{Leaf}
-use Rattle.leaves.specs.Leaves.{leaf_in, leaves_in}
+use Rattle.leaves.specs.Leaves.{leaf_in}
+use Rattle.certificate.specs.declared.Span.{Span}
 use Rattle.leaves.specs.Holds.{Ruled}
 use Rattle.leaves.specs.Lists.{Each}
 use Rattle.propagation.specs.declared.Effect.{Effect}
 use Rattle.propagation.specs.declared.Setting.{Setting}
-use Rattle.propagation.specs.declared.Words.{Words}
-use Rattle.propagation.specs.declared.Words.TheVariants.{Absent, At}
 
 -- ---- the clauses of a set
 
@@ -37,13 +36,13 @@ clause_count (Horn x) = x.count
 clause_count (TwoCnf x) = x.count
 
 -- where they stand in the file
-unfoldable pub words_of : BasicEntry → Words
-words_of Empty = Absent
-words_of Init = Absent
-words_of Goal = Absent
-words_of (Explicit x) = Absent
-words_of (Horn x) = At x
-words_of (TwoCnf x) = At x
+unfoldable pub words_of : BasicEntry → Option Span
+words_of Empty = None
+words_of Init = None
+words_of Goal = None
+words_of (Explicit x) = None
+words_of (Horn x) = Some x
+words_of (TwoCnf x) = Some x
 
 -- those that do not: of the initial states what is known is told. Of a set whose clauses do, nothing is said
 unfoldable pub own_clause : Ends → BasicEntry → ℕ → Clause
@@ -55,7 +54,7 @@ own_clause ends (Horn x) i = record { positive = 0; negative = 0 }
 own_clause ends (TwoCnf x) i = record { positive = 0; negative = 0 }
 
 unfoldable pub clause_of : List ℕ → Ends → BasicEntry → ℕ → Clause
-clause_of bytes ends x i = elim (words_of x) [ Absent ↦ own_clause ends x i | At s ↦ words_at bytes s.at i ]
+clause_of bytes ends x i = elim (words_of x) [ None ↦ own_clause ends x i | Some s ↦ words_at bytes s.at i ]
 
 -- ---- through an action
 
@@ -99,15 +98,15 @@ OfOwn ends x k i = Only (pulled_by k (own_clause ends x i))
 abbrev pub OfSet : List ℕ → Ends → BasicEntry → Effect → ℕ → Clause → Type 0
 OfSet bytes ends x k i = Only (pulled_by k (clause_of bytes ends x i))
 
--- the clauses of a leaf, over the state before the action; of leaf j of an array, and of the left leaves
+-- the clauses of a leaf, over the state before the action; of leaf j, and of the left leaves
 abbrev pub OfLeaf : List ℕ → Ends → Action → Leaf → Clause → Type 0
 OfLeaf bytes ends a x = Below (OfSet bytes ends x.set (effect_of (acting a x.after))) (clause_count x.set)
 
-abbrev pub LeafOf : List ℕ → List ℕ → Setting → ℕ → Clause → Type 0
+abbrev pub LeafOf : List ℕ → List Leaf → Setting → ℕ → Clause → Type 0
 LeafOf bytes leaves k j = OfLeaf bytes k.ends k.action (leaf_in leaves j)
 
-abbrev pub LeftOf : List ℕ → List ℕ → Setting → Clause → Type 0
-LeftOf bytes leaves k = Below (LeafOf bytes leaves k) k.m
+abbrev pub LeftOf : List ℕ → List Leaf → Setting → Clause → Type 0
+LeftOf bytes leaves k = Below (LeafOf bytes leaves k) (length leaves)
 
 -- ---- what callers owe
 
@@ -143,6 +142,6 @@ ClausalSet bytes two (TwoCnf x) = Ruled bytes two x
 abbrev pub Clausal : List ℕ → Bool → Leaf → Type 0
 Clausal bytes two x = ClausalSet bytes two x.set
 
--- the first m leaves of an array are there, and are clausal
-abbrev pub Usable : List ℕ → List ℕ → ℕ → Bool → Type 0
-Usable bytes leaves m two = (m ≤ length leaves) × Each (Clausal bytes two) (leaves_in leaves m)
+-- each of the left leaves is clausal
+abbrev pub Usable : List ℕ → List Leaf → Bool → Type 0
+Usable bytes leaves two = Each (Clausal bytes two) leaves

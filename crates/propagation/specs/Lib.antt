@@ -1,2 +1,3 @@
 pub mod Clauses
 pub mod Propagation
+pub mod Usable

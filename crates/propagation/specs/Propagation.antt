@@ -1,12 +1,15 @@
 -- What propagation over clauses promises. Only the code's inner promises speak of this.
 -- Assumes nothing.
-use Rattle.std.specs.Prelude.{◌≡◌, ℕ, ◌+◌, ◌≤◌, ◌<◌, ◌^◌, Bool, true, false, not, List, ◌⊎◌, T}
+use Rattle.std.specs.Prelude.{◌≡◌, ℕ, ◌+◌, ◌≤◌, ◌<◌, ◌^◌, Bool, true, false, not, List, length, Option, Some, None, ◌⊎◌, T}
 use Rattle.task.specs.declared.Ends.{Ends}
+use Rattle.task.specs.Facts.{without}
 use Rattle.task.specs.Inner.{bit}
 use Rattle.meaning.specs.declared.Clause.{Clause}
 use Rattle.meaning.specs.Sets.{meets}
+use Rattle.words.specs.declared.Masks.{Masks}
 use Rattle.words.specs.Words.{Misses}
 use Rattle.certificate.specs.declared.BasicEntry.{BasicEntry}
+use Rattle.leaves.specs.declared.Leaf.{Leaf}
 use Rattle.leaves.specs.Leaves.{leaf_in}
 use Rattle.propagation.specs.declared.Assignment.{Assignment}
 use Rattle.propagation.specs.Clauses.{clause_count, clause_of}
@@ -36,9 +39,8 @@ pub record Tells (r : Bool) (X : Type 0) : Type 0 where
 
 -- ---- states and assignments
 
--- a state that an assignment leaves open. None agrees with a conflict
+-- a state that an assignment leaves open
 pub record Agrees (s : ℕ) (x : Assignment) : Type 0 where
-  pub calm : x.conflict ≡ false
   pub fits : s < 2 ^ 64
   pub says : (b : Bool) (f : ℕ) → bit f (holding b x) ≡ 1 → bit f s ≡ value b
 
@@ -100,8 +102,11 @@ Settled two P x = (c : Clause) → P c → Quiet two x c
 pub record Going (S : ℕ → Type 0) (x r : Assignment) : Type 0 where
   pub sound : (s : ℕ) → S s → Agrees s x → Agrees s r
   pub grows : (b : Bool) (f : ℕ) → bit f (holding b x) ≤ bit f (holding b r)
-  pub calm : r.conflict ≡ false → x.conflict ≡ false
-  pub apart : r.conflict ≡ false → Apart x → Apart r
+  pub apart : Apart x → Apart r
+
+-- no state in S agrees with x. A function that says so by a None has found a conflict
+abbrev pub NoneIn : (ℕ → Type 0) → Assignment → Type 0
+NoneIn S x = (s : ℕ) → S s → Agrees s x → ⊥
 
 -- the two say the same, or, where only Horn clauses matter, the same of what is on
 abbrev pub Alike : Bool → Assignment → Assignment → Type 0
@@ -125,48 +130,72 @@ pub record Looked (two : Bool) (b x : Assignment) (c : Clause) : Type 0 where
   pub until : Grown seen x
   pub settled : Quiet two seen c
 
--- what looks at x may rest on, unless each clause is looked at: each was settled at some time from b on
-abbrev pub Based : Bool → (Clause → Type 0) → Bool → Assignment → Assignment → Type 0
-Based two P full b x = full ≡ false → (c : Clause) → P c → Looked two b x c
+-- what looks at x may rest on: each clause was settled at some time from b on. With no base each clause is looked at
+abbrev pub Based : Bool → (Clause → Type 0) → Option Assignment → Assignment → Type 0
+Based two P None x = Unit {0}
+Based two P (Some b) x = (c : Clause) → P c → Looked two b x c
+
+-- the facts that came to be known since a base
+unfoldable pub since : Bool → Assignment → Assignment → Masks
+since two b x = record { two = two; off = without x.off b.off; on = without x.on b.on }
 
 -- one look at each clause of P, up to a conflict
-pub record Passed (two : Bool) (P : Clause → Type 0) (x r : Assignment) : Type 0 where
+pub record PassedTo (two : Bool) (P : Clause → Type 0) (x r : Assignment) : Type 0 where
   pub goes : Going (Meets P) x r
-  pub looked : r.conflict ≡ false → (c : Clause) → P c → Looked two x r c
+  pub looked : (c : Clause) → P c → Looked two x r c
+
+abbrev pub Passed : Bool → (Clause → Type 0) → Assignment → Option Assignment → Type 0
+Passed two P x None = NoneIn (Meets P) x
+Passed two P x (Some r) = PassedTo two P x r
 
 -- looks until nothing changes, or up to a conflict
-pub record Solved (two : Bool) (P : Clause → Type 0) (x r : Assignment) : Type 0 where
+pub record SolvedTo (two : Bool) (P : Clause → Type 0) (x r : Assignment) : Type 0 where
   pub goes : Going (Meets P) x r
-  pub settled : r.conflict ≡ false → Settled two P r
+  pub settled : Settled two P r
+
+abbrev pub Solved : Bool → (Clause → Type 0) → Assignment → Option Assignment → Type 0
+Solved two P x None = NoneIn (Meets P) x
+Solved two P x (Some r) = SolvedTo two P x r
 
 -- the clause c is taken to fail
-pub record Opposed (c : Clause) (x r : Assignment) : Type 0 where
+pub record OpposedTo (c : Clause) (x r : Assignment) : Type 0 where
   pub goes : Going (λ s. T (not (meets s c))) x r
   pub told : (b : Bool) (f : ℕ) → bit f (mask b c) ≡ 1 → bit f (failing b r) ≡ 1
 
+abbrev pub Opposed : Clause → Assignment → Option Assignment → Type 0
+Opposed c x None = NoneIn (λ s. T (not (meets s c))) x
+Opposed c x (Some r) = OpposedTo c x r
+
 -- the clause c is taken to fail, and P settled again
-pub record Assumed (two : Bool) (P : Clause → Type 0) (c : Clause) (x r : Assignment) : Type 0 where
+pub record AssumedTo (two : Bool) (P : Clause → Type 0) (c : Clause) (x r : Assignment) : Type 0 where
   pub goes : Going (λ s. Meets P s × T (not (meets s c))) x r
   pub told : (b : Bool) (f : ℕ) → bit f (mask b c) ≡ 1 → bit f (failing b r) ≡ 1
-  pub settled : r.conflict ≡ false → Settled two P x → Settled two P r
+  pub settled : Settled two P x → Settled two P r
 
--- a calm assignment that has P settled leaves a state open that meets P. So it is where P is Horn, or two-literal with a model
+abbrev pub Assumed : Bool → (Clause → Type 0) → Clause → Assignment → Option Assignment → Type 0
+Assumed two P c x None = NoneIn (λ s. Meets P s × T (not (meets s c))) x
+Assumed two P c x (Some r) = AssumedTo two P c x r
+
+-- an assignment that has P settled leaves a state open that meets P. So it is where P is Horn, or two-literal with a model
 abbrev pub Fillable : Bool → (Clause → Type 0) → Type 0
-Fillable two P = (r : Assignment) → r.on < 2 ^ 64 → r.conflict ≡ false → Apart r → Settled two P r → (s : ℕ) × Agrees s r × Meets P s
+Fillable two P = (r : Assignment) → r.on < 2 ^ 64 → Apart r → Settled two P r → (s : ℕ) × Agrees s r × Meets P s
 
 -- fact i is decided, and P still settled; a conflict where no state that agrees with x meets P
-pub record Fixed (two : Bool) (P : Clause → Type 0) (i : ℕ) (x r : Assignment) : Type 0 where
+pub record FixedTo (two : Bool) (P : Clause → Type 0) (i : ℕ) (x r : Assignment) : Type 0 where
   pub goes : Going (λ s. ⊥) x r
   pub decided : 1 ≤ bit i r.on + bit i r.off
-  pub settled : r.conflict ≡ false → Settled two P x → Settled two P r
-  pub none : r.conflict ≡ true → (s : ℕ) → Agrees s x → Meets P s → ⊥
+  pub settled : Settled two P x → Settled two P r
+
+abbrev pub Fixed : Bool → (Clause → Type 0) → ℕ → Assignment → Option Assignment → Type 0
+Fixed two P i x None = NoneIn (Meets P) x
+Fixed two P i x (Some r) = FixedTo two P i x r
 
 -- ---- the search
 
--- where an assignment is calm, it has P settled
+-- an assignment has P settled, and no fact both on and off
 pub record Ready (two : Bool) (P : Clause → Type 0) (x : Assignment) : Type 0 where
-  pub apart : x.conflict ≡ false → Apart x
-  pub settled : x.conflict ≡ false → Settled two P x
+  pub apart : Apart x
+  pub settled : Settled two P x
 
 -- a state that agrees with x, meets P and fails a clause of each of the right leaves from j to 1
 pub record Witness (P : Clause → Type 0) (Q : ℕ → Clause → Type 0) (j : ℕ) (x : Assignment) : Type 0 where
@@ -180,7 +209,6 @@ pub record Candidate (two : Bool) (P : Clause → Type 0) (Q : ℕ → Clause �
   pub grown : Assignment
   pub goes : Going (λ s. ⊥) x grown
   pub fits : grown.on < 2 ^ 64
-  pub calm : grown.conflict ≡ false
   pub apart : Apart grown
   pub settled : Settled two P grown
   pub fails : (k : ℕ) → j ≤ k → k < 2 → (c : Clause) × Q k c × ((b : Bool) (f : ℕ) → bit f (mask b c) ≡ 1 → bit f (failing b grown) ≡ 1)
@@ -201,14 +229,16 @@ pub record Worth (two : Bool) (P : Clause → Type 0) (x : Assignment) (r : Bool
 
 -- ---- right clauses that are left clauses too
 
--- one of m leaves has this set, and is asked about the state before the action
-abbrev pub Before : List ℕ → ℕ → BasicEntry → Type 0
-Before leaves m x = (j : ℕ) × (j < m) × (leaf_in leaves j ≡ record { set = x; after = false })
+-- one of the leaves has this set, and is asked about the state before the action
+abbrev pub Before : List Leaf → BasicEntry → Type 0
+Before leaves x = (j : ℕ) × (j < length leaves) × (leaf_in leaves j ≡ record { set = x; after = false })
 
 -- of clauses from i on up to r, each may be passed over (`before`), and an action that changes these facts leaves it as it is
 abbrev pub PassedOver : (ℕ → Clause) → ℕ → Bool → ℕ → ℕ → Type 0
-PassedOver clause i before changed r = (j : ℕ) → i ≤ j → j < r → (before ≡ true) × Misses true changed changed (clause j)
+PassedOver clause i before changed r = (j : ℕ) → i ≤ j → j < r → (before ≡ true) × Misses (record { two = true; off = changed; on = changed }) (clause j)
 
--- so of a set's clauses, whatever the task's ends are
-abbrev pub Opens : List ℕ → BasicEntry → ℕ → Bool → ℕ → ℕ → Type 0
-Opens bytes x i before changed r = (i ≤ r) × (r ≤ clause_count x) × ((ends : Ends) → PassedOver (clause_of bytes ends x) i before changed r)
+-- so of a set's clauses up to r, or of all from i on, whatever the task's ends are
+abbrev pub Opens : List ℕ → BasicEntry → ℕ → Bool → ℕ → Option ℕ → Type 0
+Opens bytes x i before changed None = (ends : Ends) → PassedOver (clause_of bytes ends x) i before changed (clause_count x)
+Opens bytes x i before changed (Some r) =
+    (i ≤ r) × (r < clause_count x) × ((ends : Ends) → PassedOver (clause_of bytes ends x) i before changed r)

@@ -2,24 +2,25 @@
 // changes. Clauses are read from the file whenever they are looked at; none is kept.
 #![tactic(auto)]
 
-ghost use Rattle.std.specs.Prelude.{◌≡◌, true, false, ◌+◌, ◌-◌, ◌*◌, ◌<◌, ◌≤◌, ◌^◌, length};
+ghost use Rattle.std.specs.Prelude.{◌≡◌, true, Some, ◌+◌, ◌-◌, ◌*◌, ◌<◌, ◌≤◌, ◌^◌, length};
 ghost use Rattle.task.specs.Facts.{without};
 ghost use Rattle.propagation.specs.Clauses.{fact_clause, clause_count, words_of, own_clause, clause_of, acting, effect_of};
 ghost use Rattle.propagation.specs.Clauses.{met_by, pulled_by, Only, Below, OfWords, OfOwn, OfLeaf, LeftOf, Clausal, Usable};
-ghost use Rattle.propagation.specs.Propagation.{Alike, Tells, Based, Passed, Solved};
+ghost use Rattle.propagation.specs.Propagation.{Alike, Tells, Based, Passed, Solved, since};
+ghost use Rattle.std.proofs.Props.{props};
+ghost use Rattle.propagation.specs.Usable.{usable_prop};
 
 use certificate::{BasicEntry, Span};
-use leaves::{Leaf, leaf_at};
+use leaves::Leaf;
 use meaning::Clause;
 use task::{Action, Ends};
-use words::{next_hit, words_at, words_in};
+use words::{Masks, next_hit, words_at, words_in};
 
 // Facts known to be on and facts known to be off.
 #[derive(Clone, Copy)]
 pub struct Assignment {
     pub on: u64,
     pub off: u64,
-    pub conflict: bool,
 }
 
 // ---- clauses
@@ -65,24 +66,17 @@ pub fn clause_count(set: BasicEntry) -> u32
     }
 }
 
-// Where the clauses of a set stand in the file, where they do.
-#[derive(Clone, Copy)]
-pub enum Words {
-    Absent,
-    At(Span),
-}
-
-// Where a set's clauses stand.
-pub fn words_of(set: BasicEntry) -> Words
+// Where a set's clauses stand in the file, if they do.
+pub fn words_of(set: BasicEntry) -> Option<Span>
     ensures { result ≡ words_of set }
 {
     match set {
-        BasicEntry::Empty => Words::Absent,
-        BasicEntry::Init => Words::Absent,
-        BasicEntry::Goal => Words::Absent,
-        BasicEntry::Explicit(_) => Words::Absent,
-        BasicEntry::Horn(s) => Words::At(s),
-        BasicEntry::TwoCnf(s) => Words::At(s),
+        BasicEntry::Empty => None,
+        BasicEntry::Init => None,
+        BasicEntry::Goal => None,
+        BasicEntry::Explicit(_) => None,
+        BasicEntry::Horn(s) => Some(s),
+        BasicEntry::TwoCnf(s) => Some(s),
     }
 }
 
@@ -121,8 +115,8 @@ pub fn clause_at(file: &[u8], ends: Ends, set: BasicEntry, i: u32) -> Clause
     ensures { result ≡ clause_of file.now ends set i }
 {
     match words_of(set) {
-        Words::At(s) => words_at(file, s.at, i),
-        Words::Absent => own_clause(ends, set, i),
+        Some(s) => words_at(file, s.at, i),
+        None => own_clause(ends, set, i),
     }
 }
 
@@ -183,115 +177,91 @@ pub fn pulled(by: Effect, c: Clause) -> Clause
 // ---- propagation
 
 // A look at one clause: where one literal is left it is told, and where none is there is a conflict.
-fn unit(x: Assignment, c: Clause) -> Assignment
+fn unit(x: Assignment, c: Clause) -> Option<Assignment>
     ensures { Passed true (Only c) x result }
 {
-    let on = x.on;
-    let off = x.off;
-    let conflict = x.conflict;
-    let p = c.positive;
-    let n = c.negative;
-    if (p & on) | (n & off) != 0 {
-        return x;
+    if (c.positive & x.on) | (c.negative & x.off) != 0 {
+        return Some(x);
     }
-    let left_p = without(p, off);
-    let left_n = without(n, on);
+    let left_p = without(c.positive, x.off);
+    let left_n = without(c.negative, x.on);
     if left_n == 0 {
         if left_p == 0 {
-            return Assignment {
-                on,
-                off,
-                conflict: true,
-            };
+            return None;
         }
         if left_p & (left_p - 1) == 0 {
-            return Assignment {
-                on: on | left_p,
-                off,
-                conflict,
-            };
+            return Some(Assignment {
+                on: x.on | left_p,
+                off: x.off,
+            });
         }
-        return x;
+        return Some(x);
     }
     if left_p == 0 {
         if left_n & (left_n - 1) == 0 {
-            return Assignment {
-                on,
-                off: off | left_n,
-                conflict,
-            };
+            return Some(Assignment {
+                on: x.on,
+                off: x.off | left_n,
+            });
         }
     }
-    x
+    Some(x)
 }
 
-// A look at each clause that stands in the file.
-fn pass_words(file: &[u8], at: u32, count: u32, by: Effect, start: Assignment) -> Assignment
-    requires { at + 16 * count ≤ length file.now }
-    ensures { Passed true (Below (OfWords file.now at by) count) start result }
+// A look at each clause of a span.
+fn pass_words(file: &[u8], s: Span, by: Effect, start: Assignment) -> Option<Assignment>
+    requires { s.at + 16 * s.count ≤ length file.now }
+    ensures { Passed true (Below (OfWords file.now s.at by) s.count) start result }
 {
     let mut x = start;
-    let mut i = 0u32;
-    while i < count {
-        let c = pulled(by, words_in(file, at, i));
-        x = unit(x, c);
-        if x.conflict {
-            return x;
-        }
-        i += 1;
+    for i in 0..s.count as u32 {
+        x = unit(x, pulled(by, words_in(file, s.at, i)))?;
     }
-    x
+    Some(x)
+}
+
+// What came to be known since a base.
+fn since(two: bool, base: Assignment, x: Assignment) -> Masks
+    ensures { result ≡ since two base x }
+{
+    Masks {
+        two,
+        off: without(x.off, base.off),
+        on: without(x.on, base.on),
+    }
 }
 
 // The same where a base has the clauses settled: a look at those that it leaves in doubt.
 fn pass_touched(
     file: &[u8],
-    at: u32,
-    count: u32,
+    s: Span,
     by: Effect,
     two: bool,
     base: Assignment,
     start: Assignment,
-) -> Assignment
-    requires count_in_bounds { at + 16 * count ≤ length file.now }
-    requires based { Based two (Below (OfWords file.now at by) count) false base start }
-    ensures { Passed two (Below (OfWords file.now at by) count) start result }
+) -> Option<Assignment>
+    requires count_in_bounds { s.at + 16 * s.count ≤ length file.now }
+    requires based { Based two (Below (OfWords file.now s.at by) s.count) (Some base) start }
+    ensures { Passed two (Below (OfWords file.now s.at by) s.count) start result }
 {
     let mut x = start;
     let mut i = 0u32;
-    while i < count {
-        let off = without(x.off, base.off);
-        let on = without(x.on, base.on);
-        let j = next_hit(file, at, count, i, two, off, on);
-        if j == count {
-            return x;
-        }
-        let c = pulled(by, words_in(file, at, j));
-        x = unit(x, c);
-        if x.conflict {
-            return x;
-        }
+    while let Some(j) = next_hit(file, s, i, since(two, base, x)) {
+        x = unit(x, pulled(by, words_in(file, s.at, j)))?;
         i = j + 1;
     }
-    x
+    Some(x)
 }
 
 // A look at each clause of a set whose clauses do not stand in the file.
-fn pass_own(ends: Ends, set: BasicEntry, by: Effect, start: Assignment) -> Assignment
+fn pass_own(ends: Ends, set: BasicEntry, by: Effect, start: Assignment) -> Option<Assignment>
     ensures { Passed true (Below (OfOwn ends set by) (clause_count set)) start result }
 {
-    let many = clause_count(set);
     let mut x = start;
-    let mut i = 0u32;
-    while i < many {
-        let c = pulled(by, own_clause(ends, set, i));
-        x = unit(x, c);
-        if x.conflict {
-            return x;
-        }
-        i += 1;
+    for i in 0..clause_count(set) {
+        x = unit(x, pulled(by, own_clause(ends, set, i)))?;
     }
-    x
+    Some(x)
 }
 
 // A look at each clause of a span, or at those that a base leaves in doubt.
@@ -300,30 +270,35 @@ fn pass_span(
     s: Span,
     by: Effect,
     two: bool,
-    full: bool,
-    base: Assignment,
+    base: Option<Assignment>,
     x: Assignment,
-) -> Assignment
+) -> Option<Assignment>
     requires count_in_bounds { s.at + 16 * s.count ≤ length file.now }
-    requires based { Based two (Below (OfWords file.now s.at by) s.count) full base x }
+    requires based { Based two (Below (OfWords file.now s.at by) s.count) base x }
     ensures { Passed two (Below (OfWords file.now s.at by) s.count) x result }
 {
-    let at = s.at;
-    let count = s.count as u32;
-    if full {
-        return pass_words(file, at, count, by, x);
+    match base {
+        None => pass_words(file, s, by, x),
+        Some(b) => pass_touched(file, s, by, two, b, x),
     }
-    pass_touched(file, at, count, by, two, base, x)
 }
 
-// What stays the same while one action is looked at: the task's ends, how many left leaves there are, whether they are
-// two-literal or Horn, and the action.
+// What stays the same while one action is looked at: the task's ends, whether the left leaves are two-literal or Horn, and the
+// action.
 #[derive(Clone, Copy)]
 pub struct Setting {
     pub ends: Ends,
-    pub m: usize,
     pub two: bool,
     pub action: Action,
+}
+
+// A search over clauses: the file, the left leaves, and what stays the same.
+#[derive(Clone, Copy)]
+pub struct Search<'a> {
+    pub file: &'a [u8],
+    pub left: &'a [Leaf],
+    pub setting: Setting,
+    ghost usable: { Usable file.now left.now setting.two } by { usable_prop file.now setting.two (λ s. Prim.hlevel props) left.now },
 }
 
 // A look at each clause of a leaf.
@@ -331,46 +306,30 @@ fn pass_leaf(
     file: &[u8],
     k: Setting,
     leaf: Leaf,
-    full: bool,
-    base: Assignment,
+    base: Option<Assignment>,
     x: Assignment,
-) -> Assignment
+) -> Option<Assignment>
     requires clausal { Clausal file.now k.two leaf }
-    requires based { Based k.two (OfLeaf file.now k.ends k.action leaf) full base x }
+    requires based { Based k.two (OfLeaf file.now k.ends k.action leaf) base x }
     ensures { Passed k.two (OfLeaf file.now k.ends k.action leaf) x result }
 {
     let by = effect_of(k.action, leaf.after);
-    let set = leaf.set;
-    match words_of(set) {
-        Words::At(s) => pass_span(file, s, by, k.two, full, base, x),
-        Words::Absent => pass_own(k.ends, set, by, x),
+    match words_of(leaf.set) {
+        Some(s) => pass_span(file, s, by, k.two, base, x),
+        None => pass_own(k.ends, leaf.set, by, x),
     }
 }
 
 // A look at each clause of the left leaves.
-fn pass(
-    file: &[u8],
-    left: &[u64],
-    k: Setting,
-    full: bool,
-    base: Assignment,
-    start: Assignment,
-) -> Assignment
-    requires usable { Usable file.now left.now k.m k.two }
-    requires based { Based k.two (LeftOf file.now left.now k) full base start }
-    ensures { Passed k.two (LeftOf file.now left.now k) start result }
+fn pass(q: &Search, base: Option<Assignment>, start: Assignment) -> Option<Assignment>
+    requires { Based q.now.setting.two (LeftOf q.now.file.now q.now.left.now q.now.setting) base start }
+    ensures { Passed q.now.setting.two (LeftOf q.now.file.now q.now.left.now q.now.setting) start result }
 {
-    let m = k.m;
     let mut x = start;
-    let mut j = 0;
-    while j < m {
-        x = pass_leaf(file, k, leaf_at(left, j), full, base, x);
-        if x.conflict {
-            return x;
-        }
-        j += 1;
+    for leaf in q.left {
+        x = pass_leaf(q.file, q.setting, *leaf, base, x)?;
     }
-    x
+    Some(x)
 }
 
 // Whether two assignments say the same. For Horn clauses what is on decides: what came to be off needs no look of its own.
@@ -380,32 +339,20 @@ pub fn alike(two: bool, x: Assignment, y: Assignment) -> bool
     (x.on == y.on) & (!two | (x.off == y.off))
 }
 
-// Looks until nothing changes, or up to a conflict. Only the first look may be a full one: each later one rests on the one before it.
-pub fn solve(
-    file: &[u8],
-    left: &[u64],
-    k: Setting,
-    full: bool,
-    base: Assignment,
-    start: Assignment,
-) -> Assignment
-    requires usable { Usable file.now left.now k.m k.two }
-    requires based { Based k.two (LeftOf file.now left.now k) full base start }
-    ensures { Solved k.two (LeftOf file.now left.now k) start result }
+// Looks until nothing changes, or up to a conflict. The first look rests on the base, if there is one, and each later one on the one
+// before it.
+pub fn solve(q: &Search, base: Option<Assignment>, start: Assignment) -> Option<Assignment>
+    requires { Based q.now.setting.two (LeftOf q.now.file.now q.now.left.now q.now.setting) base start }
+    ensures { Solved q.now.setting.two (LeftOf q.now.file.now q.now.left.now q.now.setting) start result }
 {
     let mut x = start;
     let mut from = base;
-    let mut all = full;
     loop {
-        let y = pass(file, left, k, all, from, x);
-        if y.conflict {
-            return y;
+        let y = pass(q, from, x)?;
+        if alike(q.setting.two, x, y) {
+            return Some(y);
         }
-        if alike(k.two, x, y) {
-            return y;
-        }
-        from = x;
-        all = false;
+        from = Some(x);
         x = y;
     }
 }

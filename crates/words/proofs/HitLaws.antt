@@ -2,14 +2,15 @@
 -- Assumes nothing.
 use Prim.Native.Nat.{ℕ, ◌+◌, ◌≤◌, ◌<◌, ◌^◌}
 use mathlib.Core.Path.{◌≡◌, sym, ap₂, subst, ◌∙◌}
-use mathlib.Core.Bool.{Bool, true, false, true≢false}
+use mathlib.Core.Bool.{true, false, true≢false}
 use mathlib.Core.Logic.{◌↔◌}
 use native.Mathlib.Omega.{arith}
 use native.Mathlib.Decide.{dec_lt}
 use lib.Bits.{bit_and, bit_or, or_add_and, and_le_l, and_le_r}
-use Rattle.words.specs.Words.{Misses}
+use Rattle.words.specs.declared.Masks.{Masks}
+use Rattle.words.specs.Words.{turned_masks, Misses}
 use Rattle.turned.specs.Turned.{turned8}
-use Rattle.turned.proofs.TurnLaws.{clear8}
+use Rattle.turned.proofs.TurnLaws.{turned_clear, turned_twice}
 
 -- two masks are empty where all their facts together are none
 pub neither : (a b : ℕ) → bit_or a b ≡ 0 → (a ≡ 0) × (b ≡ 0)
@@ -39,16 +40,26 @@ pub missed_more : {M : ℕ → Type 0} {i k n : ℕ} → ((j : ℕ) → i ≤ j 
     → j < n → M j
 missed_more {M} {i} {k} {n} u v j l h = elim (dec_lt j k) [ yes p ↦ u j l p | no p ↦ v j (omega arith) h ]
 
--- what the bytes of a clause and of masks have in common, in either order
-pub hit_misses : {two : Bool} (p n off on : ℕ) → two ≡ true → p < 2 ^ 64 → n < 2 ^ 64 → off < 2 ^ 64 → on < 2 ^ 64
-    → (bit_or (bit_and (turned8 p) (turned8 off)) (bit_and (turned8 n) (turned8 on)) ≡ 0)
-    ↔ Misses two off on (record { positive = p; negative = n })
-hit_misses p n off on s hp hn ho hi = (
-  (λ e. let z = neither (bit_and (turned8 p) (turned8 off)) (bit_and (turned8 n) (turned8 on)) e in
-      ((λ t. (clear8 p off hp ho).0 z.0), (clear8 n on hn hi).0 z.1)),
-  (λ m. ap₂ bit_or ((clear8 p off hp ho).1 (m.0 s)) ((clear8 n on hn hi).1 m.1)),
+-- what the bytes of a clause have in common with masks, both in the machine's order
+pub hit_misses : (m : Masks) (p n : ℕ) → m.two ≡ true → p < 2 ^ 64 → n < 2 ^ 64 → m.off < 2 ^ 64 → m.on < 2 ^ 64
+    → (bit_or (bit_and (turned8 p) m.off) (bit_and (turned8 n) m.on) ≡ 0)
+    ↔ Misses (turned_masks m) (record { positive = p; negative = n })
+unfolding turned_masks
+hit_misses m p n s hp hn ho hi = (
+  (λ e. let z = neither (bit_and (turned8 p) m.off) (bit_and (turned8 n) m.on) e in
+      ((λ t. (turned_clear p m.off hp ho).0 z.0), (turned_clear n m.on hn hi).0 z.1)),
+  (λ k. ap₂ bit_or ((turned_clear p m.off hp ho).1 (k.0 s)) ((turned_clear n m.on hn hi).1 k.1)),
 )
 
-pub hit_body : {two : Bool} (p n off on : ℕ) → two ≡ false → n < 2 ^ 64 → on < 2 ^ 64
-    → (bit_and (turned8 n) (turned8 on) ≡ 0) ↔ Misses two off on (record { positive = p; negative = n })
-hit_body p n off on s hn hi = ((λ e. ((λ t. absurd (true≢false (sym t ∙ s))), (clear8 n on hn hi).0 e)), (λ m. (clear8 n on hn hi).1 m.1))
+pub hit_body : (m : Masks) (p n : ℕ) → m.two ≡ false → n < 2 ^ 64 → m.on < 2 ^ 64
+    → (bit_and (turned8 n) m.on ≡ 0) ↔ Misses (turned_masks m) (record { positive = p; negative = n })
+unfolding turned_masks
+hit_body m p n s hn hi = (
+  (λ e. ((λ t. absurd (true≢false (sym t ∙ s))), (turned_clear n m.on hn hi).0 e)),
+  (λ k. (turned_clear n m.on hn hi).1 k.1),
+)
+
+-- masks turned twice are as they were
+pub masks_twice : (m : Masks) → m.off < 2 ^ 64 → m.on < 2 ^ 64 → turned_masks (turned_masks m) ≡ m
+unfolding turned_masks
+masks_twice m ho hi = λ i. record { two = m.two; off = turned_twice m.off ho i; on = turned_twice m.on hi i }

@@ -2,8 +2,9 @@
 #![tactic(auto)]
 
 ghost use Rattle.std.specs.Prelude.{◌≡◌, ◌↔◌, ◌+◌, ◌*◌, ◌<◌, ◌≤◌, ◌^◌, length};
-ghost use Rattle.words.specs.Words.{words_at, Misses, MissedAt, FirstHit};
+ghost use Rattle.words.specs.Words.{words_at, turned_masks, Misses, MissedAt, FirstHit};
 
+use certificate::Span;
 use file_numbers::{u64_at, u64_in};
 use meaning::Clause;
 use turned::{turned, u64_turned};
@@ -19,7 +20,7 @@ pub fn words_at(file: &[u8], at: u32, i: u32) -> Clause
     }
 }
 
-// The same, where the clause stands within the file.
+// The same without a test, where the clause stands within the file.
 pub fn words_in(file: &[u8], at: u32, i: u32) -> Clause
     requires { at + 16 * i + 16 ≤ length file.now }
     ensures { result ≡ words_at file.now at i }
@@ -31,63 +32,79 @@ pub fn words_in(file: &[u8], at: u32, i: u32) -> Clause
     }
 }
 
-// ---- words in the machine's byte order
-
 // ---- clauses that have a fact in common with masks
 
-// What a clause in the file has in common with masks, its bytes in the machine's order: 0 where that is nothing. Of a Horn
+// Facts to look for in clauses: positive ones of `off`, where `two` says so, and negative ones of `on`.
+#[derive(Clone, Copy)]
+pub struct Masks {
+    pub two: bool,
+    pub off: u64,
+    pub on: u64,
+}
+
+// The masks in the machine's byte order.
+fn turned_masks(m: Masks) -> Masks
+    ensures { result ≡ turned_masks m }
+{
+    Masks {
+        two: m.two,
+        off: turned(m.off),
+        on: turned(m.on),
+    }
+}
+
+// What a clause in the file has in common with masks, its bytes and theirs in the machine's order: 0 where that is nothing. Of a Horn
 // clause only the body is looked at.
-fn hit(file: &[u8], at: u32, i: u32, two: bool, off: u64, on: u64) -> u64
+fn hit(file: &[u8], at: u32, i: u32, m: Masks) -> u64
     requires { at + 16 * i + 16 ≤ length file.now }
-    ensures { (result ≡ 0) ↔ Misses two off on (words_at file.now at i) }
+    ensures { (result ≡ 0) ↔ Misses (turned_masks m) (words_at file.now at i) }
 {
     let place = at as usize + 16 * (i as usize);
     let n = u64_turned(file, place + 8);
-    if two {
+    if m.two {
         let p = u64_turned(file, place);
-        return (p & turned(off)) | (n & turned(on));
+        return (p & m.off) | (n & m.on);
     }
-    n & turned(on)
+    n & m.on
 }
 
 // The same of four clauses.
-fn four_hit(file: &[u8], at: u32, i: u32, two: bool, off: u64, on: u64) -> u64
+fn four_hit(file: &[u8], at: u32, i: u32, m: Masks) -> u64
     requires { (i + 4 < 2 ^ 32) × (at + 16 * i + 64 ≤ length file.now) }
-    ensures { result ≡ 0 → MissedAt file.now at two off on i (i + 4) }
+    ensures { result ≡ 0 → MissedAt file.now at (turned_masks m) i (i + 4) }
 {
-    let a = hit(file, at, i, two, off, on);
-    let b = hit(file, at, i + 1, two, off, on);
-    let c = hit(file, at, i + 2, two, off, on);
-    let d = hit(file, at, i + 3, two, off, on);
+    let a = hit(file, at, i, m);
+    let b = hit(file, at, i + 1, m);
+    let c = hit(file, at, i + 2, m);
+    let d = hit(file, at, i + 3, m);
     a | b | c | d
 }
 
 // Past clauses that miss masks, four at a time.
-fn past_fours(file: &[u8], at: u32, count: u32, i: u32, two: bool, off: u64, on: u64) -> u32
-    requires { (i ≤ count) × (at + 16 * count ≤ length file.now) }
-    ensures { (i ≤ result) × (result ≤ count) × MissedAt file.now at two off on i result }
+fn past_fours(file: &[u8], s: Span, i: u32, m: Masks) -> u32
+    requires { (i ≤ s.count) × (s.at + 16 * s.count ≤ length file.now) }
+    ensures { (i ≤ result) × (result ≤ s.count) × MissedAt file.now s.at (turned_masks m) i result }
 {
-    let mut j = i;
-    while 4 <= count - j {
-        if four_hit(file, at, j, two, off, on) != 0 {
-            return j;
+    let fours = (s.count as u32 - i) / 4;
+    for k in 0..fours {
+        if four_hit(file, s.at, i + 4 * k, m) != 0 {
+            return i + 4 * k;
         }
-        j += 4;
     }
-    j
+    i + 4 * fours
 }
 
-// The first clause from i on that has a fact in common with masks, or the count where none has.
-pub fn next_hit(file: &[u8], at: u32, count: u32, i: u32, two: bool, off: u64, on: u64) -> u32
-    requires { (i ≤ count) × (at + 16 * count ≤ length file.now) }
-    ensures { FirstHit file.now at count two off on i result }
+// The first clause of a span from i on that has a fact in common with masks, where one has.
+pub fn next_hit(file: &[u8], s: Span, i: u32, wanted: Masks) -> Option<u32>
+    requires { (i ≤ s.count) × (s.at + 16 * s.count ≤ length file.now) }
+    ensures { FirstHit file.now s wanted i result }
 {
-    let mut j = past_fours(file, at, count, i, two, off, on);
-    while j < count {
-        if hit(file, at, j, two, off, on) != 0 {
-            return j;
+    let m = turned_masks(wanted);
+    let first = past_fours(file, s, i, m);
+    for j in first..s.count as u32 {
+        if hit(file, s.at, j, m) != 0 {
+            return Some(j);
         }
-        j += 1;
     }
-    j
+    None
 }

@@ -2,17 +2,16 @@
 -- Assumes nothing.
 use mathlib.Core.Path.{sym, ◌∙◌}
 use native.Mathlib.Omega.{arith}
-use Rattle.propagation.proofs.WordsLaws.{count_there, clause_there, inside_there}
+use Rattle.candidates.proofs.OpenLaws.{opened_words}
+use Rattle.propagation.proofs.WordsLaws.{count_there, inside_there}
 use Rattle.candidates.proofs.next_open.Goals as goal
 
-pub next_word-requires : goal.next_word-requires
-next_word-requires c =
-    let words = c in
-    let e = sym words.words_of.ensures ∙ c.in-At.is in
-    let n = count_there _ e in
-    (omega (arith, words.requires.0, n), λ b. inside_there _ _ e (words.requires.1 b))
+pub next_hit-requires : goal.next_hit-requires
+next_hit-requires c =
+    let e = sym c.words_of.ensures ∙ c.in-Some.is in
+    (omega (arith, c.requires.0, count_there _ e), inside_there _ _ e (c.requires.1 c.if-before.true))
 
-pub returns-in-At : goal.returns-in-At
-returns-in-At c =
-    let e = sym c.words_of.ensures ∙ c.in-At.is in
-    (c.next_word.ensures.0, rw (count_there _ e) c.next_word.ensures.1, λ ends j l m. let p = c.next_word.ensures.2 j l m in (p.0, rw (clause_there _ ends _ j e) p.1))
+pub returns-in-Some-clause-opens : goal.returns-in-Some-clause-opens
+returns-in-Some-clause-opens c =
+    let e = sym c.words_of.ensures ∙ c.in-Some.is in
+    opened_words c.args.file.now c.args.set c.args.i c.args.before c.args.changed c.if-before.true e _ c.next_hit.ensures

@@ -5,7 +5,7 @@ use Rattle.task.specs.declared.Ends.{Ends}
 use Rattle.meaning.specs.declared.Clause.{Clause}
 use Rattle.certificate.specs.declared.BasicEntry.{BasicEntry}
 use Rattle.propagation.specs.declared.Effect.{Effect}
-use Rattle.propagation.specs.Clauses.{clause_of, pulled_by, LeafOf, LeftOf}
+use Rattle.propagation.specs.Clauses.{clause_count, clause_of, pulled_by, LeafOf, LeftOf}
 use Rattle.clauses.proofs.SeekLaws.{Missing}
 use Rattle.clauses.proofs.+seek.Given as goal
 
@@ -16,9 +16,11 @@ family bytes ends set by i = pulled_by by (clause_of bytes ends set i)
 abbrev pub decreases-seek : goal.decreases-seek
 decreases-seek l = 2 - l.j
 
-abbrev pub invariant-loop-i : goal.invariant-loop-i
-invariant-loop-i l =
-    (l.i ≤ l.many) × Missing (LeftOf l.file l.left l.k) (LeafOf l.file l.right l.k) (family l.file l.k.ends l.set l.by) l.i l.j l.x
+abbrev pub invariant-loop-o : goal.invariant-loop-o
+invariant-loop-o l =
+    (l.i ≤ clause_count l.leaf.set)
+    × Missing (LeftOf l.q.file.now l.q.left.now l.q.setting) (LeafOf l.q.file.now l.right l.q.setting)
+    (family l.q.file.now l.q.setting.ends l.leaf.set l.by) l.i l.j l.x
 
-abbrev pub decreases-loop-i : goal.decreases-loop-i
-decreases-loop-i l = l.many - l.i
+abbrev pub decreases-loop-o : goal.decreases-loop-o
+decreases-loop-o l = clause_count l.leaf.set - l.i

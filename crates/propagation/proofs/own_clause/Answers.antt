@@ -1,12 +1,12 @@
 -- `propagation::own_clause` meets its contract: each case gives its own clause.
 -- Assumes nothing.
--- the initial states and the goal have a clause for each of 64 facts
 use Rattle.propagation.specs.Clauses.{fact_clause, clause_count, own_clause}
 use Rattle.propagation.proofs.own_clause.Goals as goal
 
+-- the initial states and the goal have a clause for each of 64 facts
 pub fact_clause-requires : goal.fact_clause-requires
 unfolding clause_count
-fact_clause-requires c = let s = c in rw s.in-Init.is at s.requires
+fact_clause-requires c = rw c.in-Init.is at c.requires
 
 pub fact_clause-requires-in-Goal : goal.fact_clause-requires-in-Goal
 unfolding clause_count
@@ -15,8 +15,7 @@ fact_clause-requires-in-Goal c = rw c.in-Goal.is at c.requires
 pub returns-in-Init : goal.returns-in-Init
 unfolding own_clause
 returns-in-Init c =
-    let s = c in
-    rw s.in-Init.is (rw s.without.ensures at c.fact_clause.ensures)
+    rw c.in-Init.is (rw c.without.ensures at c.fact_clause.ensures)
 
 pub returns-in-Empty : goal.returns-in-Empty
 unfolding own_clause

@@ -3,5 +3,5 @@
 use Rattle.propagation.proofs.PassLaws.{passed_any}
 use Rattle.propagation.proofs.pass_span.Goals as goal
 
-pub returns-then-full : goal.returns-then-full
-returns-then-full c = passed_any _ c.pass_words.ensures
+pub returns-in-None : goal.returns-in-None
+returns-in-None c = passed_any _ _ _ _ c.pass_words.ensures

@@ -2,12 +2,8 @@
 -- Assumes nothing.
 use mathlib.Core.Bool.{true}
 use Rattle.propagation.specs.Clauses.{OfWords, Below}
-use Rattle.propagation.specs.Propagation.{Passed}
-use Prim.Native.Nat.{◌≤◌, ◌-◌}
+use Rattle.propagation.specs.Propagation.{PassedTo}
 use Rattle.propagation.proofs.pass_words.Given as goal
 
 abbrev pub invariant-loop-i : goal.invariant-loop-i
-invariant-loop-i l = (l.i ≤ l.count) × Passed true (Below (OfWords l.file l.at l.by) l.i) l.initial.x l.x
-
-abbrev pub decreases-loop-i : goal.decreases-loop-i
-decreases-loop-i l = l.count - l.i
+invariant-loop-i l = PassedTo true (Below (OfWords l.file l.s.at l.by) l.i) l.initial.x l.x

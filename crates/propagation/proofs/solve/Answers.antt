@@ -7,8 +7,7 @@ use Rattle.propagation.proofs.solve.Goals as goal
 
 pub returns-then-alike : goal.returns-then-alike
 returns-then-alike c =
-    let looked = c in
-    solved_fixed looked.loop-k.invariant.0 looked.pass-y.ensures (c.alike.ensures.finds (holds c.if-alike.true))
+    solved_fixed c.loop-y.invariant.0 c.in_ok-y.ensures (c.alike.ensures.finds (holds c.if-alike.true))
 
-pub loop-k-smaller : goal.loop-k-smaller
-loop-k-smaller c = omega (arith, unlike_less c.alike.ensures c.if-alike.false c.pass-y.ensures.goes)
+pub loop-y-smaller : goal.loop-y-smaller
+loop-y-smaller c = omega (arith, unlike_less c.alike.ensures c.if-alike.false c.in_ok-y.ensures.goes)

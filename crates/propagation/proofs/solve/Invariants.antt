@@ -5,9 +5,9 @@ use Rattle.propagation.specs.Propagation.{Meets, Going, Based}
 use Prim.Native.Nat.{◌+◌, ◌-◌, ◌^◌}
 use Rattle.propagation.proofs.solve.Given as goal
 
-abbrev pub invariant-loop-k : goal.invariant-loop-k
-invariant-loop-k l =
-    Going (Meets (LeftOf l.file l.left l.k)) l.initial.x l.x × Based l.k.two (LeftOf l.file l.left l.k) l.all l.from l.x
+abbrev pub invariant-loop-y : goal.invariant-loop-y
+invariant-loop-y l =
+    Going (Meets (LeftOf l.q.file.now l.q.left.now l.q.setting)) l.initial.x l.x × Based l.q.setting.two (LeftOf l.q.file.now l.q.left.now l.q.setting) l.from l.x
 
-abbrev pub decreases-loop-k : goal.decreases-loop-k
-decreases-loop-k l = 2 ^ 65 - (l.x.on + l.x.off)
+abbrev pub decreases-loop-y : goal.decreases-loop-y
+decreases-loop-y l = 2 ^ 65 - (l.x.on + l.x.off)

@@ -4,10 +4,10 @@ use Rattle.std.proofs.Common.{true, false, refl, rules}
 use Rattle.propagation.proofs.UnitLaws.{Left, met_already, stays_open, stays_wide, conflicting, forces}
 use Rattle.propagation.proofs.unit.Goals as goal
 
-pub returns-then-p-on-ne0 : goal.returns-then-p-on-ne0
-returns-then-p-on-ne0 c =
+pub returns-then-c-x-ne0 : goal.returns-then-c-x-ne0
+returns-then-c-x-ne0 c =
     met_already (record { positive_fits = search rules; negative_fits = search rules; positive_left = refl; negative_left = refl })
-    c.if-p-on-ne0.true
+    c.if-c-x-ne0.true
 
 pub returns-then-left_p-eq0 : goal.returns-then-left_p-eq0
 returns-then-left_p-eq0 c =

@@ -1,11 +1,8 @@
--- `words::next_hit` meets its contract.
+-- `words::next_hit` meets its contract: the clauses before this one miss the masks.
 -- Assumes nothing.
-use Rattle.words.specs.Words.{MissedAt}
-use Prim.Native.Nat.{◌≤◌, ◌-◌}
+use Prim.Native.Nat.{◌≤◌}
+use Rattle.words.specs.Words.{MissedAt, turned_masks}
 use Rattle.words.proofs.next_hit.Given as goal
 
 abbrev pub invariant-loop-j : goal.invariant-loop-j
-invariant-loop-j l = (l.i ≤ l.j) × (l.j ≤ l.count) × MissedAt l.file l.at l.two l.off l.on l.i l.j
-
-abbrev pub decreases-loop-j : goal.decreases-loop-j
-decreases-loop-j l = l.count - l.j
+invariant-loop-j l = (l.i ≤ l.j) × MissedAt l.file l.s.at (turned_masks l.m) l.i l.j
