@@ -42,9 +42,6 @@ module _ (s u : ℕ) (Q : ℕ → Type 0) where
   pub none_passed : (d : ℕ) → Passed s u Q d d
   none_passed d e w l m = absurd (omega arith)
 
-  pub passed_on : (from d r : ℕ) → Passed s u Q from d → Passed s u Q d r → Passed s u Q from r
-  passed_on from d r p q e w l m = elim (dec_lt d e) [ yes n ↦ p e w n m | no n ↦ q e w l (omega arith) ]
-
   pub passed_next : (from d : ℕ) → T (all_on d u) → Passed s u Q from d → Q (s - d) → Passed s u Q from (bit_and (d - 1) u)
   passed_next from d h p q e w l m =
       elim (dec_lt d e) [
@@ -188,6 +185,13 @@ module _ (ends : Ends) (a : Action) (top kept changed : ℕ) (split : Split ends
           at_init_of ends (top - d - e) (λ f z.
           let (i, j, l, m, n, o, p, q, r) = facts f in
           omega (arith, bit_tried f, bit_kept f, all_on_at d kept h f, all_on_at e changed k f))
+
+      pub tried_applies : T (applies a top) → T (applies a (top - d - e))
+      tried_applies g =
+          applies_of a (top - d - e) (λ f.
+          let (i, j, l, m, n, o, p, q, r) = facts f in
+          let (t, u) = applies_facts a top g f in
+          (omega (arith, bit_tried f, bit_kept f, all_on_at d kept h f, all_on_at e changed k f), omega (arith, bit_tried f, bit_kept f)))
 
       pub tried_after : after a (top - d - e) ≡ after a (top - d)
       tried_after =

@@ -1,2 +1,3 @@
 pub mod Listed
 pub mod Search
+pub mod Told

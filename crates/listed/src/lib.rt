@@ -1,149 +1,65 @@
 // Statements over listed states: whether an action in a listed state makes a statement untrue.
 #![tactic(auto)]
 
-ghost use Rattle.std.specs.Prelude.{◌≡◌, ◌↔◌, ℕ, ◌+◌, ◌*◌, ◌≤◌, ◌<◌, not, ◌||◌, length, T, eqb};
+ghost use Rattle.std.specs.Prelude.{◌≡◌, ◌↔◌, ◌+◌, ◌*◌, ◌≤◌, ◌<◌, ◌||◌, true, length, T, eqb, Some, IfSome, IsSomeAnd};
 ghost use Rattle.std.specs.Int.Bits.{bit_and};
+ghost use Rattle.std.specs.Option.{option_eq};
+ghost use Rattle.std.proofs.Props.{props};
 ghost use Rattle.task.specs.Facts.{all_on};
 ghost use Rattle.task.specs.Task.{applies, after};
 ghost use Rattle.task.specs.Reach.{member};
 ghost use Rattle.meaning.specs.Sets.{all_below, some_below};
-ghost use Rattle.certificate.specs.Rows.{by_rows, state_in, InOrder};
-ghost use Rattle.leaves.specs.Leaves.{leaf_in, leaves_in};
+ghost use Rattle.certificate.specs.Rows.{state_in, InOrder};
+ghost use Rattle.leaves.specs.Leaves.{leaf_in};
 ghost use Rattle.leaves.specs.Holds.{states_at, Orderly};
 ghost use Rattle.leaves.specs.Lists.{Each, Countered};
 ghost use Rattle.listed.specs.Listed.{Anchored};
-ghost use Rattle.listed.specs.Search.{Readable, StatesAfter, Different, Closed, holds_one, shows_in};
-ghost use Rattle.listed.specs.Search.{Led, Passed, OneLess, OneInitial, Split};
+ghost use Rattle.listed.specs.Search.{Readable, Readable-prop, StatesAfter, Different, holds_one, told, shows_in};
+ghost use Rattle.listed.specs.Search.{LeadsTo, OneLess, OneInitial, Split};
 
-use certificate::{BasicEntry, Index, Span};
-use leaves::{Leaf, leaf_at};
-use membership::{by_rows, find, search, set_holds, state_in};
-use task::{Action, Ends, after, applies};
+use certificate::{BasicEntry, Source, Span};
+use leaves::Leaf;
+use membership::{Listed, set_holds};
+use task::{Action, after, applies};
 
 // Whether a leaf holds s, or t where it is asked about the state after the action.
-fn holds_one(file: &[u8], index: &Index, ends: Ends, x: Leaf, s: u64, t: u64) -> bool
-    requires { Orderly file.now index.now x.set }
-    ensures { result ≡ holds_one file.now ends s t x }
+fn holds_one(file: &Source, x: &Leaf, s: u64, t: u64) -> bool
+    requires { Orderly file.now.bytes.now file.now.index.now x.now.set }
+    ensures { result ≡ holds_one file.now.bytes.now file.now.ends s t x.now }
 {
-    let set = x.set;
     let v = if x.after { t } else { s };
-    set_holds(file, index, ends, set, v)
+    set_holds(file, x.set, v)
 }
 
-// Whether each of m leaves holds, where leaf `but` is not asked.
-fn all_hold(
-    file: &[u8],
-    index: &Index,
-    ends: Ends,
-    leaves: &[u64],
-    m: usize,
-    but: usize,
-    s: u64,
-    t: u64,
-) -> bool
-    requires { Readable file.now index.now leaves.now m }
-    ensures { result ≡ all_below m (λ j. eqb j but || holds_one file.now ends s t (leaf_in leaves.now j)) }
+// Whether each leaf, but the one that is not asked, holds, or each does not.
+fn each_is(file: &Source, leaves: &[Leaf], but: Option<usize>, holds: bool, s: u64, t: u64) -> bool
+    requires { Readable file.now.bytes.now file.now.index.now leaves.now }
+    ensures { result ≡ all_below (length leaves.now) (λ j. option_eq eqb but (Some j) || told file.now.bytes.now file.now.ends holds s t (leaf_in leaves.now j)) }
 {
-    let mut j: usize = 0;
-    while j < m {
-        if j != but {
-            if !holds_one(file, index, ends, leaf_at(leaves, j), s, t) {
-                return false;
-            }
-        }
-        j += 1;
-    }
-    true
-}
-
-// Whether none of r leaves holds.
-fn none_holds(
-    file: &[u8],
-    index: &Index,
-    ends: Ends,
-    leaves: &[u64],
-    r: usize,
-    s: u64,
-    t: u64,
-) -> bool
-    requires { Readable file.now index.now leaves.now r }
-    ensures { result ≡ all_below r (λ j. not (holds_one file.now ends s t (leaf_in leaves.now j))) }
-{
-    let mut j: usize = 0;
-    while j < r {
-        if holds_one(file, index, ends, leaf_at(leaves, j), s, t) {
+    for (j, leaf) in leaves.iter().enumerate() {
+        if but != Some(j) && holds_one(file, leaf, s, t) != holds {
             return false;
         }
-        j += 1;
     }
     true
 }
 
-// Whether a state of the anchor makes the statement untrue: the action applies there, the other left leaves hold and no right one does.
-fn shows_in(
-    file: &[u8],
-    index: &Index,
-    ends: Ends,
-    left: &[u64],
-    m: usize,
-    right: &[u64],
-    r: usize,
-    anchor: usize,
-    a: Action,
-    s: u64,
-) -> bool
-    requires { Readable file.now index.now left.now m × Readable file.now index.now right.now r }
-    ensures { result ≡ shows_in file.now ends a left.now m right.now r anchor s }
+// How many listed states differ: by size, those behind them are the last of them again. No partition_point: it promises nothing of rows
+// that are not known to be parted.
+fn different(x: &Listed) -> usize
+    ensures { Different x.now.index.now x.now.span result }
 {
-    if !applies(a, s) {
-        return false;
-    }
-    let t = after(a, s);
-    if !all_hold(file, index, ends, left, m, anchor, s, t) {
-        return false;
-    }
-    none_holds(file, index, ends, right, r, s, t)
-}
-
-// The states of the first right leaf, where it lists them and is asked about the state after the action, or that is the state before it;
-// else none.
-fn states_after(right: &[u64], r: usize, a: Action) -> Span
-    requires { r ≤ length right.now }
-    ensures { StatesAfter right.now r a result }
-{
-    if r == 0 {
-        return Span { at: 0, count: 0 };
-    }
-    let x = leaf_at(right, 0);
-    if !(x.after | (a.add | a.del == 0)) {
-        return Span { at: 0, count: 0 };
-    }
-    let set = x.set;
-    let BasicEntry::Explicit(states) = set else {
-        return Span { at: 0, count: 0 };
-    };
-    states
-}
-
-// How many listed states differ: by size, those behind them are the last of them again.
-fn different(index: &Index, x: Span, rows: bool) -> usize
-    requires { (x.at + 8 * x.count ≤ 65536) × (rows ≡ by_rows index.now) }
-    ensures { Different index.now x result }
-{
-    let count = x.count as usize;
-    if count == 0 {
-        return 0;
-    }
-    if !rows {
+    let count = x.len();
+    if count == 0 || !x.rows {
         return count;
     }
-    let first = 768 + x.at as usize / 8;
-    let last = index[first + (count - 1)];
+    let first = 768 + x.span.at as usize / 8;
+    let last = x.index[first + (count - 1)];
     let mut lo: usize = 0;
     let mut hi = count - 1;
     while lo < hi {
         let mid = lo + ((hi - lo) >> 1);
-        if index[first + mid] == last {
+        if x.index[first + mid] == last {
             hi = mid;
         } else {
             lo = mid + 1;
@@ -152,276 +68,207 @@ fn different(index: &Index, x: Span, rows: bool) -> usize
     hi + 1
 }
 
-// Whether an action that needs no fact both on and off applies in a state: one look at all that it needs tells.
-fn applies_at_once(a: Action, s: u64) -> bool
-    requires { bit_and a.pre a.off ≡ 0 }
-    ensures { result ≡ applies a s }
-{
-    s & (a.pre | a.off) == a.pre
+// Listed states that an action may lead to, the one of them that was found last, and which number is behind it.
+#[derive(Clone, Copy)]
+struct Trail<'a> {
+    into: Listed<'a>,
+    last: Option<u64>,
+    next: usize,
+    ghost found: { IfSome last (λ s. member s (states_at into.bytes.now into.span.at into.span.count) ≡ true) } by { Prim.hlevel props },
 }
 
-// The first of listed states, by size, from number `from` on and before `to`, in which the action applies and does not lead into other
-// listed states. What it leads to is looked for behind what was found last, and not again where it is the same.
-fn first_open(
-    file: &[u8],
-    index: &Index,
-    x: Span,
-    from: usize,
-    to: usize,
-    into: Span,
-    rows: bool,
-    a: Action,
-) -> usize
-    requires in_order { InOrder file.now index.now x × InOrder file.now index.now into × (rows ≡ by_rows index.now) × (from ≤ to) × (to ≤ x.count) }
-    requires off_value { bit_and a.pre a.off ≡ 0 }
-    ensures { (result ≤ to) × (from ≤ result) × ((k : ℕ) → from ≤ k → k < result → Closed file.now into a (state_in file.now index.now x k)) }
-{
-    let many = into.count as usize;
-    if many == 0 {
-        return from;
-    }
-    let mut near: usize = 0;
-    let mut last: u64 = 0;
-    let mut i = from;
-    while i < to {
-        let s = state_in(file, index, x, rows, i);
-        if applies_at_once(a, s) {
-            let t = after(a, s);
-            if (near == 0) | (t != last) {
-                let k = find(file, index, into, rows, near, t);
-                if many <= k {
-                    return i;
-                }
-                near = k + 1;
-                last = t;
-            }
-        }
-        i += 1;
-    }
-    i
-}
-
-// Whether one of the anchor's listed states does. One from which the action leads into the first right leaf does not.
-fn one_shows(
-    file: &[u8],
-    index: &Index,
-    ends: Ends,
-    left: &[u64],
-    m: usize,
-    right: &[u64],
-    r: usize,
-    anchor: usize,
-    a: Action,
-    x: Span,
-) -> bool
-    requires readable { Readable file.now index.now left.now m × Readable file.now index.now right.now r }
-    requires in_order { InOrder file.now index.now x × (bit_and a.pre a.off ≡ 0) }
-    ensures { result ≡ some_below x.count (λ i. shows_in file.now ends a left.now m right.now r anchor (state_in file.now index.now x i)) }
-{
-    let rows = by_rows(index);
-    let into = states_after(right, r, a);
-    let count = different(index, x, rows);
-    let mut i = first_open(file, index, x, 0, count, into, rows, a);
-    while i < count {
-        let s = state_in(file, index, x, rows, i);
-        if shows_in(file, index, ends, left, m, right, r, anchor, a, s) {
+impl<'a> Trail<'a> {
+    // Whether a state is one of them. It is looked for behind the one found last, and not again where it is the same.
+    #[inline(always)]
+    fn has(&mut self, s: u64) -> bool
+        ensures same { self.new.into ≡ self.old.into }
+        ensures found { result ≡ true → member s (states_at self.old.into.bytes.now self.old.into.span.at self.old.into.span.count) ≡ true }
+    {
+        if self.last == Some(s) {
             return true;
         }
-        i = first_open(file, index, x, i + 1, count, into, rows, a);
+        let Some(k) = self.into.find(self.next, s) else {
+            return false;
+        };
+        self.last = Some(s);
+        self.next = k + 1;
+        true
     }
-    false
 }
 
-// Whether a state is the k-th of listed states, by size.
-fn is_at(file: &[u8], index: &Index, x: Span, rows: bool, k: usize, s: u64) -> bool
-    requires { InOrder file.now index.now x × (rows ≡ by_rows index.now) }
-    ensures { T result ↔ ((k < x.count) × (state_in file.now index.now x k ≡ s)) }
-{
-    let many = x.count as usize;
-    if many <= k {
-        return false;
-    }
-    state_in(file, index, x, rows, k) == s
-}
-
-// Whether the action leads from s to one of listed states.
-fn leads(file: &[u8], index: &Index, into: Span, rows: bool, a: Action, s: u64) -> bool
-    requires { (rows ≡ by_rows index.now) × (0 < into.count → InOrder file.now index.now into) }
-    ensures { result ≡ member (after a s) (states_at file.now into.at into.count) }
-{
-    let many = into.count as usize;
-    if many == 0 {
-        return false;
-    }
-    search(file, index, into, rows, 0, after(a, s)) < many
-}
-
-// Whether one of the states s - e does, for the masks e within a mask.
-fn some_shows(
-    file: &[u8],
-    index: &Index,
-    ends: Ends,
-    left: &[u64],
-    m: usize,
-    right: &[u64],
-    r: usize,
+// A statement, one of whose left leaves, the anchor, lists the states that are tried; and an action that needs no fact both on and off.
+#[derive(Clone, Copy)]
+struct Statement<'a> {
+    file: &'a Source<'a>,
+    left: &'a [Leaf],
+    right: &'a [Leaf],
     anchor: usize,
     a: Action,
-    s: u64,
-    mask: u64,
-) -> bool
-    requires readable { Readable file.now index.now left.now m × Readable file.now index.now right.now r }
-    requires t { T (all_on mask s) }
-    ensures { T result ↔ OneLess s mask (shows_in file.now ends a left.now m right.now r anchor) }
-{
-    let mut e = mask;
-    loop {
-        if shows_in(file, index, ends, left, m, right, r, anchor, a, s - e) {
-            return true;
+    ghost left_readable: { Readable file.now.bytes.now file.now.index.now left.now } by { Readable-prop file.now.bytes.now file.now.index.now left.now },
+    ghost right_readable: { Readable file.now.bytes.now file.now.index.now right.now } by { Readable-prop file.now.bytes.now file.now.index.now right.now },
+    ghost needs: { bit_and a.pre a.off ≡ 0 },
+}
+
+impl<'a> Statement<'a> {
+    ghost use Rattle.listed.specs.Told.{shows, Follows};
+
+    // Whether the action applies in a state: one look at all that it needs tells.
+    fn applies(&self, s: u64) -> bool
+        ensures { result ≡ applies self.now.a s }
+    {
+        s & (self.a.pre | self.a.off) == self.a.pre
+    }
+
+    // Whether s, in which the action applies and leads to t, makes the statement untrue: the left leaves but the anchor hold and no right
+    // one does.
+    fn shows(&self, s: u64, t: u64) -> bool
+        requires { (applies self.now.a s ≡ true) × (t ≡ after self.now.a s) }
+        ensures { result ≡ shows self.now s }
+    {
+        each_is(self.file, self.left, Some(self.anchor), true, s, t)
+            && each_is(self.file, self.right, None, false, s, t)
+    }
+
+    // The states of the first right leaf, where it lists them and is asked about the state after the action, or that is the state before
+    // it. A state from which the action leads to one of them does not make the statement untrue.
+    fn trail(&self) -> Option<Trail<'a>>
+        ensures { Follows result self.now }
+    {
+        let x = self.right.first()?;
+        if !(x.after || self.a.add | self.a.del == 0) {
+            return None;
         }
-        if e == 0 {
+        let BasicEntry::Explicit(states) = x.set else {
+            return None;
+        };
+        Some(Trail {
+            into: Listed::new(self.file, states),
+            last: None,
+            next: 0,
+        })
+    }
+
+    // Whether a state does. One from which the action leads to a state of the trail does not.
+    #[inline(always)]
+    fn state_shows(&self, trail: &mut Option<Trail>, s: u64) -> bool
+        requires { Follows trail.old self.now }
+        ensures follows { Follows trail.new self.now }
+        ensures shows { result ≡ shows self.now s }
+    {
+        if !self.applies(s) {
             return false;
         }
-        e = (e - 1) & mask;
-    }
-}
-
-// The first of the states top - d, for the masks d within a mask from `from` down, from which the action does not lead into listed states;
-// or the last one, top, which is not looked at. They ascend as d goes down, so what the action leads to is looked for behind what was found
-// last, and mostly stands next to it.
-fn first_unled(
-    file: &[u8],
-    index: &Index,
-    top: u64,
-    mask: u64,
-    from: u64,
-    into: Span,
-    rows: bool,
-    a: Action,
-) -> u64
-    requires { (rows ≡ by_rows index.now) × (0 < into.count → InOrder file.now index.now into) × T (all_on from mask) × T (all_on mask top) }
-    ensures { T (all_on result mask) × (result ≤ from) × Passed top mask (Led file.now into a) from result }
-{
-    let many = into.count as usize;
-    if many == 0 {
-        return from;
-    }
-    let mut near: usize = 0;
-    let mut d = from;
-    while d != 0 {
-        let t = after(a, top - d);
-        if is_at(file, index, into, rows, near, t) {
-            near += 1;
-        } else {
-            let k = search(file, index, into, rows, near, t);
-            if many <= k {
-                return d;
+        let t = after(self.a, s);
+        if let Some(trail) = trail {
+            if trail.has(t) {
+                return false;
             }
-            near = k + 1;
         }
-        d = (d - 1) & mask;
+        self.shows(s, t)
     }
-    d
-}
 
-// Whether one of the initial states does, where the action applies in `top`. They are tried as top - d - e, for the masks d of facts that
-// it keeps and e of facts that it changes: whatever e is, it leads to the same state, and where that is one of the first right leaf, none
-// of them does.
-fn tried_show(
-    file: &[u8],
-    index: &Index,
-    ends: Ends,
-    left: &[u64],
-    m: usize,
-    right: &[u64],
-    r: usize,
-    anchor: usize,
-    a: Action,
-    top: u64,
-    kept: u64,
-    changed: u64,
-) -> bool
-    requires readable { Readable file.now index.now left.now m × Readable file.now index.now right.now r }
-    requires split { Split ends a top kept changed }
-    ensures { T result ↔ OneInitial ends (shows_in file.now ends a left.now m right.now r anchor) }
-{
-    let rows = by_rows(index);
-    let into = states_after(right, r, a);
-    let mut d = kept;
-    loop {
-        d = first_unled(file, index, top, kept, d, into, rows, a);
-        let s = top - d;
-        if !leads(file, index, into, rows, a, s) {
-            if some_shows(file, index, ends, left, m, right, r, anchor, a, s, changed) {
+    // Whether one of the anchor's listed states does.
+    fn one_shows(&self, x: Span) -> bool
+        requires { InOrder self.now.file.now.bytes.now self.now.file.now.index.now x }
+        ensures { result ≡ some_below x.count (λ i. shows self.now (state_in self.now.file.now.bytes.now self.now.file.now.index.now x i)) }
+    {
+        let states = Listed::new(self.file, x);
+        let mut trail = self.trail();
+        for i in 0..different(&states) {
+            if self.state_shows(&mut trail, states.state(i)) {
                 return true;
             }
         }
-        if d == 0 {
+        false
+    }
+
+    // Whether one of the states s - e does, for the masks e within a mask, which are no range to go over. The action applies in each of
+    // them, and leads to the same state.
+    fn some_shows(&self, trail: &mut Option<Trail>, s: u64, mask: u64) -> bool
+        requires follows { Follows trail.old self.now }
+        requires within { T (all_on mask s) }
+        requires alike { LeadsTo self.now.a s mask (after self.now.a s) }
+        ensures follows { Follows trail.new self.now }
+        ensures shows { T result ↔ OneLess s mask (shows self.now) }
+    {
+        let t = after(self.a, s);
+        if let Some(trail) = trail {
+            if trail.has(t) {
+                return false;
+            }
+        }
+        let mut e = mask;
+        loop {
+            if self.shows(s - e, t) {
+                return true;
+            }
+            if e == 0 {
+                return false;
+            }
+            e = (e - 1) & mask;
+        }
+    }
+
+    // Whether one of the initial states does, where the action applies in `top`. They are tried as top - d - e, for the masks d of facts
+    // that it keeps and e of facts that it changes: whatever e is, it leads to the same state, and these ascend as d goes down.
+    fn tried_show(&self, top: u64, kept: u64, changed: u64) -> bool
+        requires split { Split self.now.file.now.ends self.now.a top kept changed }
+        requires top { applies self.now.a top ≡ true }
+        ensures { T result ↔ OneInitial self.now.file.now.ends (shows self.now) }
+    {
+        let mut trail = self.trail();
+        let mut d = kept;
+        loop {
+            if self.some_shows(&mut trail, top - d, changed) {
+                return true;
+            }
+            if d == 0 {
+                return false;
+            }
+            d = (d - 1) & kept;
+        }
+    }
+
+    // Whether one of the initial states does. Where the action applies in none of them, as `top` tells, none does; else the unknown facts
+    // that it needs are known.
+    fn initial_shows(&self) -> bool
+        ensures { T result ↔ OneInitial self.now.file.now.ends (shows self.now) }
+    {
+        let ends = self.file.ends;
+        let a = self.a;
+        let unknown = ends.unknown;
+        let top = (ends.init | unknown) & !(a.off & unknown);
+        if !applies(a, top) {
             return false;
         }
-        d = (d - 1) & kept;
+        let free = unknown & !(a.pre | a.off);
+        let changed = free & (a.add | a.del);
+        let kept = free & !(a.add | a.del);
+        self.tried_show(top, kept, changed)
     }
-}
-
-// Whether one of the initial states does. Where the action applies in none of them, as `top` tells, none does; else the unknown facts that
-// it needs are known.
-fn initial_shows(
-    file: &[u8],
-    index: &Index,
-    ends: Ends,
-    left: &[u64],
-    m: usize,
-    right: &[u64],
-    r: usize,
-    anchor: usize,
-    a: Action,
-) -> bool
-    requires { Readable file.now index.now left.now m × Readable file.now index.now right.now r }
-    ensures { T result ↔ OneInitial ends (shows_in file.now ends a left.now m right.now r anchor) }
-{
-    let unknown = ends.unknown;
-    let top = (ends.init | unknown) & !(a.off & unknown);
-    if !applies(a, top) {
-        return false;
-    }
-    let free = unknown & !(a.pre | a.off);
-    let changed = free & (a.add | a.del);
-    let kept = free & !(a.add | a.del);
-    tried_show(
-        file, index, ends, left, m, right, r, anchor, a, top, kept, changed,
-    )
 }
 
 // Whether an action in a state of the anchor, a left leaf that lists its states, makes the statement untrue. One that needs a fact both on
 // and off applies in none, and makes none so.
-pub fn shown(
-    file: &[u8],
-    index: &Index,
-    ends: Ends,
-    left: &[u64],
-    m: usize,
-    right: &[u64],
-    r: usize,
-    anchor: usize,
-    a: Action,
-) -> bool
-    requires m_in_bounds { (m ≤ length left.now) × (r ≤ length right.now) × (anchor < m) × Anchored file.now ends (leaf_in left.now anchor) }
-    requires each { Each (λ x. Orderly file.now index.now x.set) (leaves_in left.now m) × Each (λ x. Orderly file.now index.now x.set) (leaves_in right.now r) }
-    ensures { T result ↔ Countered file.now ends a (leaves_in left.now m) (leaves_in right.now r) }
+pub fn shown(file: &Source, left: &[Leaf], right: &[Leaf], anchor: usize, a: Action) -> bool
+    requires anchored { (anchor < length left.now) × Anchored file.now.bytes.now file.now.ends (leaf_in left.now anchor) }
+    requires each { Each (λ x. Orderly file.now.bytes.now file.now.index.now x.set) left.now × Each (λ x. Orderly file.now.bytes.now file.now.index.now x.set) right.now }
+    ensures { T result ↔ Countered file.now.bytes.now file.now.ends a left.now right.now }
 {
     if a.pre & a.off != 0 {
         return false;
     }
-    let x = leaf_at(left, anchor);
-    let set = x.set;
+    let set = left[anchor].set;
+    let statement = Statement {
+        file,
+        left,
+        right,
+        anchor,
+        a,
+    };
     match set {
-        BasicEntry::Empty => false,
-        BasicEntry::Init => initial_shows(file, index, ends, left, m, right, r, anchor, a),
-        BasicEntry::Goal => false,
-        BasicEntry::Explicit(states) => {
-            one_shows(file, index, ends, left, m, right, r, anchor, a, states)
-        }
-        BasicEntry::Horn(_) => false,
-        BasicEntry::TwoCnf(_) => false,
+        BasicEntry::Init => statement.initial_shows(),
+        BasicEntry::Explicit(states) => statement.one_shows(states),
+        _ => false,
     }
 }

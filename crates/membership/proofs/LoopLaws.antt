@@ -4,13 +4,11 @@ use mathlib.Core.Path.{◌≡◌, refl, ap, subst, sym, ◌∙◌}
 use Prim.Native.Nat.{ℕ, ◌+◌, ◌≤◌, ◌<◌}
 use native.Mathlib.Nat.{le_antisymm}
 use native.Mathlib.Numerals.{add-one}
-use native.Mathlib.Omega.{arith}
-use native.Mathlib.Decide.{dec_lt}
-use mathlib.Core.Bool.{Bool, true, false, true≢false}
+use mathlib.Core.Bool.{Bool, true, false}
 use lib.Dec.{T}
 use Rattle.task.proofs.Tests.{is_true, is_false}
 use Rattle.meaning.specs.Sets.{all_below, some_below}
-use Rattle.meaning.proofs.Below.{all_at, some_at, some_of}
+use Rattle.meaning.proofs.Below.{all_at, some_of}
 
 -- each number below k passes; some number does
 module _ (t : ℕ → Bool) where
@@ -25,9 +23,6 @@ module _ (t : ℕ → Bool) where
   pub all_fails : (k i : ℕ) → i < k → t i ≡ false → false ≡ all_below k t
   all_fails k i l e = sym (is_false (all_below k t) (λ a. subst T e (all_at k t a i l)))
 
-  pub all_done : {k i : ℕ} → all_below i t ≡ true → i ≤ k → k ≤ i → true ≡ all_below k t
-  all_done p l h = sym p ∙ ap (λ (n : ℕ). all_below n t) (le_antisymm l h)
-
   pub some_none : some_below 0 t ≡ false
   unfolding some_below
   some_none = refl
@@ -35,15 +30,6 @@ module _ (t : ℕ → Bool) where
   pub some_more : (i : ℕ) → some_below i t ≡ false → t i ≡ false → some_below (i + 1) t ≡ false
   unfolding some_below
   some_more i p e = rw (add-one, e, some_below) p
-
-  pub some_range : (i j : ℕ) → some_below i t ≡ false → ((k : ℕ) → i ≤ k → k < j → t k ≡ false) → some_below j t ≡ false
-  some_range i j p h =
-      is_false (some_below j t) (λ w.
-      let x = some_at j t w in
-      elim (dec_lt x.0 i) [
-        | yes l ↦ true≢false (sym (is_true (some_below i t) (some_of i t x.0 l x.2)) ∙ p)
-        | no l ↦ true≢false (sym (is_true (t x.0) x.2) ∙ h x.0 (omega arith) x.1)
-      ])
 
   pub some_found : (k i : ℕ) → i < k → t i ≡ true → true ≡ some_below k t
   some_found k i l e = sym (is_true (some_below k t) (some_of k t i l (subst T (sym e) tt)))

@@ -3,16 +3,18 @@
 use mathlib.Core.Path.{◌≡◌, ap, subst, sym, ◌∙◌}
 use mathlib.Core.Logic.{inl, inr}
 use Prim.Native.Nat.{ℕ, zero, suc, ◌+◌, ◌*◌, ◌≤◌, ◌<◌}
-use native.Mathlib.Nat.{not-suc-le-zero, le_refl, le_of_suc-le-suc}
+use native.Mathlib.Nat.{not-suc-le-zero, le_of_suc-le-suc}
 use native.Mathlib.Omega.{arith}
-use native.Mathlib.Decide.{dec_lt}
 use mathlib.Core.Bool.{Bool}
 use mathlib.Core.List.{List}
 use lib.ListN.{length}
-use lib.Dec.{T, ltb, lt→ltb, ltb→lt}
+use Rattle.std.specs.Prelude.{None, Some}
+use lib.Dec.{T, eqb→eq}
 use Rattle.task.specs.Reach.{member}
 use Rattle.task.proofs.Tests.{is_true, is_false, member_none, member_first, member_rest, member_cases}
 use Rattle.file_numbers.specs.Numbers.{number_at}
+use Rattle.meaning.proofs.Below.{some_at}
+use Rattle.membership.specs.Found.{Found}
 use Rattle.meaning.specs.Bytes.{number}
 use Rattle.file_numbers.proofs.ByteLaws.{number_in}
 use Rattle.certificate.specs.declared.Span.{Span}
@@ -20,8 +22,6 @@ use Rattle.certificate.specs.Rows.{row_of, state_in, InOrder}
 use Rattle.leaves.specs.Holds.{states_at}
 
 -- what holds from one number on up to i, and of i
-pub from_more : (Q : ℕ → Type 0) (from i : ℕ) → ((k : ℕ) → from ≤ k → k < i → Q k) → Q i → (k : ℕ) → from ≤ k → k < i + 1 → Q k
-from_more Q from i h q k l m = elim (dec_lt k i) [ yes n ↦ h k l n | no n ↦ (let e : i ≡ k = omega arith in subst Q e q) ]
 
 -- state k of those from a place
 abbrev pub word : List ℕ → ℕ → ℕ → ℕ
@@ -68,42 +68,20 @@ module _ (bytes index : List ℕ) (x : Span) (s : ℕ) where
     pub hi_le : hi ≤ x.count
     pub between : (k : ℕ) → k < x.count → s ≡ state_in bytes index x k → (lo ≤ k) × (k < hi)
 
-  pub bracket_start : Bracket 0 x.count
-  bracket_start = record { hi_le = le_refl x.count; between = λ k l e. (omega arith, l) }
-
   module _ (o : InOrder bytes index x) where
-    -- a smaller state in the middle rules out those up to it, a larger one those from it on
-    module _ {lo hi t mid : ℕ} (b : Bracket lo hi) (e : t ≡ state_in bytes index x mid) (l : mid < hi) where
-      pub bracket_up : t < s → Bracket (mid + 1) hi
-      bracket_up h = record {
-        hi_le = b.hi_le;
-        between = λ k lk q.
-            let early : k ≤ mid → ⊥ = λ w. omega (arith, o.ascend k mid w (omega (arith, b.hi_le))) in
-            (elim (dec_lt mid k) [ yes w ↦ omega arith | no w ↦ absurd (early (omega arith)) ], (b.between k lk q).1);
-      }
-
-      pub bracket_down : s < t → Bracket lo mid
-      bracket_down h = record {
-        hi_le = omega (arith, b.hi_le);
-        between = λ k lk q.
-            let late : mid ≤ k → ⊥ = λ w. omega (arith, o.ascend mid k w lk) in
-            ((b.between k lk q).0, elim (dec_lt k mid) [ yes w ↦ w | no w ↦ absurd (late (omega arith)) ]);
-      }
-
-    pub search_found : {t k : ℕ} → t ≡ state_in bytes index x k → k < x.count → t ≡ s → ltb k x.count ≡ among
+    pub search_found : {t k : ℕ} → t ≡ state_in bytes index x k → k < x.count → t ≡ s → Found bytes index x s (Some k)
     search_found {k = k} e l q =
         let m = subst (λ (y : ℕ). T (member y (states_at bytes x.at x.count))) (sym e ∙ q)
         (listed_at bytes x.at x.count (row_of index x k) (o.below k l)) in
-        is_true (ltb k x.count) (lt→ltb k x.count l) ∙ sym (is_true _ m)
+        (l, sym e ∙ q, is_true _ m)
 
     -- a state that is among them is one of them by size
     pub listed_in_order : T among → (k : ℕ) × (k < x.count) × (s ≡ state_in bytes index x k)
     listed_in_order m =
         let (j, l, e) = listed_in_lem bytes s x.at x.count m in
-        let (k, n, q) = o.every j l in
-        (k, n, e ∙ sym q)
+        let (k, n, q) = some_at x.count _ (o.every j l) in
+        (k, n, e ∙ sym (eqb→eq _ _ q))
 
-    pub search_missed : {lo hi : ℕ} → Bracket lo hi → hi ≤ lo → ltb x.count x.count ≡ among
+    pub search_missed : {lo hi : ℕ} → Bracket lo hi → hi ≤ lo → Found bytes index x s None
     search_missed b l =
-        is_false (ltb x.count x.count) (λ t. let w = ltb→lt x.count x.count t in omega arith)
-        ∙ sym (is_false _ (λ m. let (k, n, e) = listed_in_order m in let v = b.between k n e in omega arith))
+        is_false _ (λ m. let (k, n, e) = listed_in_order m in let v = b.between k n e in omega arith)

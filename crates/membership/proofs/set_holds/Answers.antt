@@ -1,5 +1,8 @@
 -- `membership::set_holds` meets its contract: each case by its own test.
 -- Assumes nothing.
+use native.Mathlib.Omega.{arith}
+use Rattle.std.proofs.lemmas.Grind.{common_steps}
+use mathlib.Core.Logic.{inl, inr}
 use Rattle.leaves.specs.Holds.{meets_all, set_holds}
 use Rattle.std.proofs.Common.{refl}
 use Rattle.membership.proofs.set_holds.Goals as goal
@@ -18,12 +21,8 @@ returns-in-Goal c = rw c.in-Goal.is c.is_goal.ensures
 
 pub returns-in-Explicit : goal.returns-in-Explicit
 unfolding set_holds
-returns-in-Explicit c = rw c.in-Explicit.is c.among.ensures
+returns-in-Explicit c = rw c.in-Explicit.is grind (arith, common_steps)
 
 pub returns-in-Horn : goal.returns-in-Horn
 unfolding set_holds meets_all
-returns-in-Horn c = rw c.in-Horn.is c.meets_all.ensures
-
-pub returns-in-TwoCnf : goal.returns-in-TwoCnf
-unfolding set_holds meets_all
-returns-in-TwoCnf c = rw c.in-TwoCnf.is c.meets_all-in-TwoCnf.ensures
+returns-in-Horn c = elim c.in-Horn.is [ inl e ↦ rw e c.meets_all.ensures | inr e ↦ rw e c.meets_all.ensures ]

@@ -1,8 +1,0 @@
--- `listed::applies_at_once` meets its contract.
--- Assumes nothing.
-use borrow.Author.Rules.{rules}
-use Rattle.task.proofs.Names.{applies_at_once_lem}
-use Rattle.listed.proofs.applies_at_once.Goals as goal
-
-pub returns : goal.returns
-returns c = applies_at_once_lem _ _ (search rules)
