@@ -5,9 +5,9 @@ use Prim.Native.Nat.{ℕ, zero, suc, ◌+◌, ◌*◌, ◌/◌, ◌%◌, ◌^◌
 use native.Mathlib.Nat.{pow-suc, mod-eq_of_lt, one-mul}
 use native.Mathlib.Omega.{arith}
 use native.Mathlib.Decide.{ℕ_discrete, dec_lt}
-use mathlib.Core.Bool.{Bool, false, not, ◌&&◌, ◌||◌}
+use mathlib.Core.Bool.{Bool, false, not, ◌||◌, or-false}
 use mathlib.Core.List.{List, [], ◌∷◌}
-use lib.ListN.{get_or, set}
+use lib.ListN.{length, get_or, set}
 use lib.Seq.{get_or-set_same, get_or-set_other}
 use lib.Bits.{bit_or}
 use lib.Pow.{pow-lt}
@@ -17,6 +17,8 @@ use Rattle.task.proofs.Tests.{both_ways, and_left, and_right, and_both, or_left,
 use Rattle.task.proofs.Bits.{same_bits, bit_le, bit_or_lem, bit_zero, bit_suc, bit_none, bit_high}
 use Rattle.meaning.specs.Sets.{all_below}
 use Rattle.task.specs.Inner.{bit, has}
+use Rattle.std.specs.List.{list_all, zip}
+use Rattle.std.proofs.lemmas.Slice.Zip.{length-zip, get_or-zip}
 use Rattle.actions.specs.Marks.{marked, Marks}
 use Rattle.meaning.proofs.Below.{all_at, all_of}
 use Rattle.meaning.proofs.Sets.{implies_of}
@@ -82,13 +84,15 @@ none (suc (suc zero)) = refl
 none (suc (suc (suc zero))) = refl
 none (suc (suc (suc (suc j)))) = refl
 
-pub one_marked : (i w : ℕ) → i < 256 → w ≡ 2 ^ (i % 64) → Marks (set zeros (i / 64) w) (λ j. eqb j i)
+pub more_marked : (words : List ℕ) (i w : ℕ) → length words ≡ 4 → i < 256 → w ≡ 2 ^ (i % 64)
+    → Marks (set words (i / 64) (bit_or (get_or words (i / 64) 0) w)) (λ j. marked words j || eqb j i)
 unfolding marked
-one_marked i w h e j l =
+more_marked words i w n h e j l =
+    let u : ℕ = bit_or (get_or words (i / 64) 0) w in
     elim (ℕ_discrete (j / 64) (i / 64)) [
-      | yes q ↦ rw (q, get_or-set_same zeros (i / 64) w 0 (omega arith), e) (has_pow (j % 64) (i % 64) ∙ by_rest q)
-      | no q ↦ rw (get_or-set_other zeros (i / 64) (j / 64) w 0 q, none (j / 64))
-          (has_none (j % 64) ∙ sym (ne_eqb j i (λ z. q (ap (λ (x : ℕ). x / 64) z))))
+      | yes q ↦ rw (q, get_or-set_same words (i / 64) u 0 (omega arith), has_or, e)
+          (ap (λ (b : Bool). has (get_or words (i / 64) 0) (j % 64) || b) (has_pow (j % 64) (i % 64) ∙ by_rest q))
+      | no q ↦ rw (get_or-set_other words (i / 64) (j / 64) u 0 q, ne_eqb j i (λ z. q (ap (λ (x : ℕ). x / 64) z))) (sym (or-false _))
     ]
   where
     by_rest : j / 64 ≡ i / 64 → eqb (j % 64) (i % 64) ≡ eqb j i
@@ -106,16 +110,10 @@ four P a b c d (suc (suc zero)) h = c
 four P a b c d (suc (suc (suc zero))) h = d
 four P a b c d (suc (suc (suc (suc k)))) h = absurd (omega arith)
 
-abbrev pub or_all : List ℕ → List ℕ → List ℕ
-or_all a b =
-    bit_or (get_or a 0 0) (get_or b 0 0) ∷ bit_or (get_or a 1 0) (get_or b 1 0)
-    ∷ bit_or (get_or a 2 0) (get_or b 2 0) ∷ bit_or (get_or a 3 0) (get_or b 3 0) ∷ []
-
-pub united_marks : (a b : List ℕ) → Marks (or_all a b) (λ i. marked a i || marked b i)
+pub united_marks : (a b words : List ℕ) → ((k : ℕ) → k < 4 → get_or words k 0 ≡ bit_or (get_or a k 0) (get_or b k 0))
+    → Marks words (λ i. marked a i || marked b i)
 unfolding marked
-united_marks a b i h =
-    four (λ k. has (get_or (or_all a b) k 0) (i % 64) ≡ (has (get_or a k 0) (i % 64) || has (get_or b k 0) (i % 64)))
-    (has_or _ _ (i % 64)) (has_or _ _ (i % 64)) (has_or _ _ (i % 64)) (has_or _ _ (i % 64)) (i / 64) (omega arith)
+united_marks a b words h i l = rw (h (i / 64) (omega arith)) (has_or _ _ (i % 64))
 
 -- ---- marked in one and in the other
 
@@ -150,33 +148,33 @@ within_words a b l =
     (λ t. all_of 64 _ (λ k s. implies_of (has a k) (has b k) (within_has a b t k)))
     (λ t. has_within a b l (λ k s. implied (has a k) (has b k) (all_at 64 _ t k s)))
 
--- 256 marks are four times 64
-pub all_four : (t : ℕ → ℕ → Bool)
-    → (all_below 64 (t 0) && all_below 64 (t 1) && all_below 64 (t 2) && all_below 64 (t 3)) ≡ all_below 256 (λ i. t (i / 64) (i % 64))
-all_four t =
+-- 256 marks are four times 64: word by word, the words of two lists
+all_here : (p : ℕ × ℕ → Bool) (xs : List (ℕ × ℕ)) → T (list_all p xs) → (k : ℕ) → k < length xs → T (p (get_or xs k (0, 0)))
+all_here p [] h k l = absurd (omega arith)
+all_here p (x ∷ xs) h zero l = and_left (p x) (list_all p xs) h
+all_here p (x ∷ xs) h (suc k) l = all_here p xs (and_right (p x) (list_all p xs) h) k (omega arith)
+
+all_there : (p : ℕ × ℕ → Bool) (xs : List (ℕ × ℕ)) → ((k : ℕ) → k < length xs → T (p (get_or xs k (0, 0)))) → T (list_all p xs)
+all_there p [] h = tt
+all_there p (x ∷ xs) h = and_both (p x) (list_all p xs) (h 0 (omega arith)) (all_there p xs (λ k l. h (suc k) (omega arith)))
+
+pub all_words : (t : ℕ → ℕ → ℕ → Bool) (a b : List ℕ) → length a ≡ 4 → length b ≡ 4
+    → list_all (λ p. all_below 64 (t p.0 p.1)) (zip a b) ≡ all_below 256 (λ i. t (get_or a (i / 64) 0) (get_or b (i / 64) 0) (i % 64))
+all_words t a b m n =
+    let four : length (zip a b) ≡ 4 = omega (arith, length-zip a b) in
     both_ways _ _
-    (λ h.
-    let h₃ = and_left (all_below 64 (t 0) && all_below 64 (t 1) && all_below 64 (t 2)) (all_below 64 (t 3)) h in
-    let h₂ = and_left (all_below 64 (t 0) && all_below 64 (t 1)) (all_below 64 (t 2)) h₃ in
-    all_of 256 _ (λ i l.
-    four (λ k. (j : ℕ) → j < 64 → T (t k j))
-    (all_at 64 _ (and_left (all_below 64 (t 0)) (all_below 64 (t 1)) h₂))
-    (all_at 64 _ (and_right (all_below 64 (t 0)) (all_below 64 (t 1)) h₂))
-    (all_at 64 _ (and_right (all_below 64 (t 0) && all_below 64 (t 1)) (all_below 64 (t 2)) h₃))
-    (all_at 64 _ (and_right (all_below 64 (t 0) && all_below 64 (t 1) && all_below 64 (t 2)) (all_below 64 (t 3)) h))
-    (i / 64) (omega arith) (i % 64) (omega arith)))
-    (λ h.
-    and_both (all_below 64 (t 0) && all_below 64 (t 1) && all_below 64 (t 2)) (all_below 64 (t 3))
-    (and_both (all_below 64 (t 0) && all_below 64 (t 1)) (all_below 64 (t 2))
-    (and_both (all_below 64 (t 0)) (all_below 64 (t 1)) (part h 0 (omega arith)) (part h 1 (omega arith)))
-    (part h 2 (omega arith))) (part h 3 (omega arith)))
+    (λ h. all_of 256 _ (λ i l. all_at 64 _ (rw (here (i / 64) (omega arith)) at (all_here _ (zip a b) h (i / 64) (omega arith))) (i % 64) (omega arith)))
+    (λ h. all_there _ (zip a b) (λ k l. rw (here k (omega arith)) (all_of 64 _ (part h k (omega arith)))))
   where
-    part : T (all_below 256 (λ i. t (i / 64) (i % 64))) → (k : ℕ) → k < 4 → T (all_below 64 (t k))
-    part h k l =
-        all_of 64 (t k) (λ j m.
+    here : (k : ℕ) → k < 4 → get_or (zip a b) k (0, 0) ≡ (get_or a k 0, get_or b k 0)
+    here k l = get_or-zip a b k (0, 0) (omega arith) (omega arith)
+
+    part : T (all_below 256 (λ i. t (get_or a (i / 64) 0) (get_or b (i / 64) 0) (i % 64))) → (k : ℕ) → k < 4 → (j : ℕ) → j < 64
+        → T (t (get_or a k 0) (get_or b k 0) j)
+    part h k l j z =
         let d : (64 * k + j) / 64 ≡ k = omega arith in
         let r : (64 * k + j) % 64 ≡ j = omega arith in
-        subst (λ (y : ℕ). T (t k y)) r (subst (λ (x : ℕ). T (t x ((64 * k + j) % 64))) d (all_at 256 _ h (64 * k + j) (omega arith))))
+        rw (d, r) at (all_at 256 _ h (64 * k + j) (omega arith))
 
 pub no_marks : (j : ℕ) → marked zeros j ≡ false
 unfolding marked

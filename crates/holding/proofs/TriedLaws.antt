@@ -38,17 +38,19 @@ module _ (t : Task) (states chosen : ℕ → Bool) (s : ℕ) where
   unfolding leads regressed some_action
   one_leads i n e l h = sym (is_true _ (some_of (length t.actions) leads i (subst (λ (m : ℕ). i < m) e l) (holds h)))
 
-  -- what the code learns of action i by its mark and whether it applies, and then by where it leads
-  pub record Tried (i : ℕ) (x : Action) (passes : Bool) : Type 0 where
-    pub passed_over : passes ≡ false → leads i ≡ false
-    pub led : passes ≡ true → (u : ℕ) (d : Bool) → u ≡ after x s → d ≡ states u → leads i ≡ d
+  -- what the code learns of action i: by its mark, by whether it applies, and by where it leads
+  pub record Tried (i : ℕ) (x : Action) (b : Bool) : Type 0 where
+    pub unmarked : b ≡ false → leads i ≡ false
+    pub unmet : b ≡ true → (c : Bool) → c ≡ applies x s → c ≡ false → leads i ≡ false
+    pub led : b ≡ true → (c : Bool) → c ≡ applies x s → c ≡ true → (u : ℕ) (d : Bool) → u ≡ after x s → d ≡ states u → leads i ≡ d
 
   pub tried : (marks : List ℕ) → Marks marks chosen → (i : ℕ) → i < 256 → (x : Action) → x ≡ action_at t i
-      → (b c : Bool) → b ≡ marked marks i → c ≡ applies x s → Tried i x (b && c)
+      → (b : Bool) → b ≡ marked marks i → Tried i x b
   unfolding leads
-  tried marks m i l x q b c p r =
-      let h : leads i ≡ (b && c && states (after x s)) = rw (p, m i l, r, q) refl in
+  tried marks m i l x q b p =
+      let h : leads i ≡ (b && applies x s && states (after x s)) = rw (p, m i l, q) refl in
       record {
-        passed_over = λ n. h ∙ ap (λ (y : Bool). y && states (after x s)) n;
-        led = λ y u d e k. h ∙ rw (y, ← e) (sym k);
+        unmarked = λ e. h ∙ rw e refl;
+        unmet = λ e c k n. h ∙ rw (e, ← k, n) refl;
+        led = λ e c k y u d f g. h ∙ rw (e, ← k, y, ← f) (sym g);
       }

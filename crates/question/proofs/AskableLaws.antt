@@ -1,6 +1,6 @@
 -- When a question is answered, and how.
 -- Assumes nothing.
-use mathlib.Core.Path.{◌≡◌, refl, sym, ap, ap₂, ◌∙◌}
+use mathlib.Core.Path.{◌≡◌, refl, sym, ap, ap₂, ◌∙◌, subst}
 use Prim.Native.Nat.{ℕ, ◌-◌, ◌^◌, ◌≤◌, ◌<◌, min}
 use mathlib.Core.Bool.{Bool, true, false, not, ◌&&◌}
 use mathlib.Core.List.{List}
@@ -12,6 +12,7 @@ use Rattle.task.specs.Inner.{ends_of}
 use Rattle.task.proofs.MaskLaws.{within_all}
 use Rattle.task.proofs.Tests.{and_left, and_right, holds, is_true}
 use Rattle.certificate.specs.declared.Places.{Places}
+use Rattle.certificate.specs.declared.Whole.{Whole}
 use Rattle.meaning.specs.Result.{refuse, found, need, ◌>>=◌}
 use Rattle.meaning.specs.File.{File}
 use Rattle.meaning.specs.Layout.{read_file}
@@ -27,6 +28,10 @@ all_four : (a b c d : Bool) → a ≡ true → (b && (c && d)) ≡ (a && b && c 
 all_four true true c d h = refl
 all_four true false c d h = refl
 all_four false b c d h = absurd (holds h)
+
+-- the places of a whole file are those of the bytes that its table is of
+pub placed : (w : Whole) → Placed w.entries.bytes.now w.laid.at
+placed w = subst (λ (b : List ℕ). Placed b w.laid.at) w.same w.laid.placed
 
 module _ (bytes : List ℕ) (at : Places) (k : Placed bytes at) (e s : ℕ) where
   abbrev f : File
@@ -51,7 +56,7 @@ module _ (bytes : List ℕ) (at : Places) (k : Placed bytes at) (e s : ℕ) wher
     yes_asked : not r ≡ false → askable f e s ≡ true
     yes_asked n = sym q ∙ not-false r n
 
-    pub asked : not r ≡ false → (e < at.state_sets) × (has_progression f e ≡ false)
+    pub asked : not r ≡ false → (e < length f.state_sets) × (has_progression f e ≡ false)
     unfolding askable
     asked n =
         let A : Bool = ltb e (length f.state_sets) in
@@ -59,7 +64,7 @@ module _ (bytes : List ℕ) (at : Places) (k : Placed bytes at) (e s : ℕ) wher
         let C : Bool = not (has_progression f e) in
         let t : T (A && B && C) = and_left (A && B && C) (leb (depth f e) 4) (holds (yes_asked n)) in
         let l : e < length f.state_sets = ltb→lt e (length f.state_sets) (and_left A B (and_left (A && B) C t)) in
-        (rw (placed_state_sets bytes at k) l, not-true (has_progression f e) (is_true C (and_right (A && B) C t)))
+        (l, not-true (has_progression f e) (is_true C (and_right (A && B) C t)))
 
     pub refused : not r ≡ true → Refused 13 0 ≡ answer_in f e s
     unfolding answer_in answer_to need ◌>>=◌

@@ -2,10 +2,9 @@
 -- Assumes nothing.
 use mathlib.Core.Path.{◌∙◌}
 use Rattle.actions.proofs.EntryActions.{within_marks}
-use borrow.Author.Rules.{rules}
 use Rattle.actions.proofs.actions_within.Goals as goal
 
 pub returns : goal.returns
 returns c =
-    let s = c in
-    c.all_marked.ensures ∙ within_marks _ _ s.requires.known s.args.a s.args.b _ _ c.action_marks.ensures c.action_marks-2.ensures
+    c.all_marked.ensures
+    ∙ within_marks _ _ c.args.file.now.known c.args.a c.args.b _ _ c.action_marks.ensures c.action_marks-2.ensures

@@ -1,7 +1,7 @@
 -- `holding::member` and `holding::try_each_action`: each names an entry of a lower number. 2e is the measure of `member` at entry e,
 -- and 2e + 1 that of `try_each_action` for entry e. The invariant: none of the first `i` actions leads into the set.
 -- Assumes nothing.
-use Prim.Native.Nat.{◌+◌, ◌*◌, ◌-◌, ◌≤◌}
+use Prim.Native.Nat.{◌+◌, ◌*◌}
 use Rattle.certificate.specs.Known.{decoded}
 use Rattle.meaning.specs.Sets.{in_actions, in_set}
 use Rattle.holding.proofs.TriedLaws.{NoneOf}
@@ -15,8 +15,4 @@ decreases-try_each_action l = 2 * l.e + 1
 
 abbrev pub invariant-try_each_action-loop-i : goal.invariant-try_each_action-loop-i
 invariant-try_each_action-loop-i l =
-    (l.i ≤ l.count)
-    × NoneOf (decoded l.file).task (in_set (decoded l.file) l.e) (in_actions (decoded l.file) l.a) l.s l.i
-
-abbrev pub decreases-try_each_action-loop-i : goal.decreases-try_each_action-loop-i
-decreases-try_each_action-loop-i l = l.count - l.i
+    NoneOf (decoded l.file.entries.bytes.now).task (in_set (decoded l.file.entries.bytes.now) l.e) (in_actions (decoded l.file.entries.bytes.now) l.a) l.s l.i

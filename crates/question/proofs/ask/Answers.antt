@@ -1,26 +1,24 @@
 -- `question::ask` meets its contract: a file that is not read is refused as the layout check says, and one that is read is asked.
 -- Assumes nothing.
--- where the file is lawful, these are its places
-use mathlib.Core.Path.{◌∙◌, refl}
 use borrow.Author.Rules.{rules}
-use Rattle.certificate.specs.Known.{Placed}
-use Rattle.certificate.proofs.IndexLaws.{zeros}
+use mathlib.Core.Path.{◌≡◌, refl, ◌∙◌, sym, ap}
+use Rattle.certificate.specs.Known.{decoded}
+use Rattle.question.specs.Asked.{answer_in}
+use Rattle.certificate.specs.declared.Laid.{Laid}
 use Rattle.certificate.proofs.OutlineKnown.{lawful_placed, refused_full}
 use Rattle.question.proofs.AskableLaws.{read_answer, unread_answer}
 use Rattle.question.proofs.ask.Goals as goal
 
-pub put_entries-requires : goal.put_entries-requires
-put_entries-requires c = ((lawful_placed _ _ c.read_layout.ensures _ c.in-Lawful.is), refl, zeros 8961)
+pub invariant_of-with_entries : goal.invariant_of-with_entries
+invariant_of-with_entries c = record { placed = lawful_placed _ _ c.read_layout.ensures _ c.in-Ok.is }
 
-pub answer-requires : goal.answer-requires
-answer-requires c = let v = c in ((lawful_placed _ _ c.read_layout.ensures _ c.in-Lawful.is), v.put_entries.ensures)
+pub returns-in-Err-clause-answer : goal.returns-in-Err-clause-answer
+returns-in-Err-clause-answer c =
+    c.from.ensures ∙ unread_answer _ _ _ _ _ (refused_full _ _ c.read_layout.ensures refl _ c.in-Err.is)
 
-pub returns-in-Refused-clause-answer : goal.returns-in-Refused-clause-answer
-returns-in-Refused-clause-answer c =
-    let v = c in
-    let r = refused_full _ _ v.read_layout.ensures v.full_limits.ensures _ _ c.in-Refused.is in
-    unread_answer _ _ _ _ _ r
-
-pub returns-in-Lawful-clause-answer : goal.returns-in-Lawful-clause-answer
-returns-in-Lawful-clause-answer c =
-    c.answer.ensures ∙ read_answer _ _ _ _ (lawful_placed _ _ c.read_layout.ensures _ c.in-Lawful.is).read
+pub returns-in-Ok-clause-answer : goal.returns-in-Ok-clause-answer
+returns-in-Ok-clause-answer c =
+    let (w, same, gave) = c.with_entries.ensures in
+    let said : c.with_entries.result ≡ answer_in (decoded w.entries.bytes.now) c.args.entry c.args.state = search rules in
+    let bytes : w.entries.bytes.now ≡ c.args.file.now = sym w.same ∙ ap (λ (l : Laid). l.bytes.now) same in
+    said ∙ rw bytes (read_answer _ _ _ _ (lawful_placed _ _ c.read_layout.ensures _ c.in-Ok.is).read)

@@ -1,17 +1,20 @@
 -- `marks::all_marked`: word by word, four times 64 marks are 256.
 -- Assumes nothing.
 use mathlib.Core.Bool.{not, ◌||◌}
-use lib.ListN.{get_or}
+use borrow.Author.Rules.{rules}
+use mathlib.Core.Path.{◌∙◌}
+use Rattle.std.proofs.Common.{tests}
+use Rattle.std.proofs.lemmas.Iterator.{YieldsList-from_slice, YieldsList-from_zip}
+use Rattle.std.proofs.lemmas.Iterator.Search.{all_from_yields_List}
+use Rattle.meaning.specs.Sets.{all_below}
 use Rattle.task.specs.Inner.{has}
 use Rattle.actions.specs.Marks.{marked}
-use Rattle.actions.proofs.MarkLaws.{all_four}
-use borrow.Author.Rules.{rules}
+use Rattle.actions.proofs.MarkLaws.{all_words}
 use Rattle.actions.proofs.marks.all_marked.Goals as goal
 
 pub returns : goal.returns
 unfolding marked
 returns c =
-    let s = c in
-    let two = c in
-    rw (two.within_word.ensures, two.within_word-2.ensures, c.within_word-3.ensures, c.within_word-4.ensures)
-    (all_four (λ k j. not (has (get_or s.args.a k 0) j) || has (get_or s.args.b k 0) j))
+    all_from_yields_List (λ p. all_below 64 (λ k. not (has p.0 k) || has p.1 k)) c.all.new.self _ c.all.result c.all.ensures.ran
+    (YieldsList-from_zip (YieldsList-from_slice c.args.a cc) (YieldsList-from_slice c.args.b cc)) (λ x b q k. search (rules, tests))
+    ∙ all_words (λ x y k. not (has x k) || has y k) c.args.a c.args.b (search rules) (search rules)

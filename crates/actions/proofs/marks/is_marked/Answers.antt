@@ -3,7 +3,6 @@
 use mathlib.Core.Path.{refl}
 use Rattle.task.specs.Inner.{bit, has}
 use Rattle.actions.specs.Marks.{marked}
-use borrow.Author.Rules.{rules}
 use Rattle.actions.proofs.marks.is_marked.Goals as goal
 
 pub returns : goal.returns
