@@ -24,28 +24,28 @@ module _ (f : File) where
 
   -- 9 PG: S[T]<S+U, U dead, S&G dead; S dead
   pub pg : (e l r u m : ℕ)
-      → (names_all f 9 l e && names_both f 8 r e u && names_goal f m e)
+      → (names_all f 9 l e && (names_both f 8 r e u && names_goal f m e))
       ≡ follows f (rule_numbered 9) (Dead e) (Within l r ∷ Dead u ∷ Dead m ∷ [])
   unfolding opened
   pg e l r u m = simp (eqb_comm u (second (state_set_at f r)), chain)
 
   -- 10 PI: S[T]<S+U, U dead, I<S; ~S dead
   pub pi : (e l r u i m s : ℕ) → state_set_at f e ≡ complement s
-      → (names_all f 9 l s && names_both f 8 r s u && (of_sort f 1 i && eqb m s))
+      → (names_all f 9 l s && (names_both f 8 r s u && (of_sort f 1 i && eqb m s)))
       ≡ follows f (rule_numbered 10) (Dead e) (Within l r ∷ Dead u ∷ Within i m ∷ [])
   unfolding opened
   pi e l r u i m s h = simp (h, eqb_comm u (second (state_set_at f r)), chain)
 
   -- 11 RG: [T]S<S+U, U dead, ~S&G dead; ~S dead
   pub rg : (e l r u m s : ℕ) → state_set_at f e ≡ complement s
-      → (names_all f 10 l s && names_both f 8 r s u && names_complement_goal f m s)
+      → (names_all f 10 l s && (names_both f 8 r s u && names_complement_goal f m s))
       ≡ follows f (rule_numbered 11) (Dead e) (Within l r ∷ Dead u ∷ Dead m ∷ [])
   unfolding opened
   rg e l r u m s h = simp (h, eqb_comm u (second (state_set_at f r)), chain)
 
   -- 12 RI: [T]S<S+U, U dead, I<~S; S dead
   pub ri : (e l r u i m : ℕ)
-      → (names_all f 10 l e && names_both f 8 r e u && (of_sort f 1 i && names f 6 m e))
+      → (names_all f 10 l e && (names_both f 8 r e u && (of_sort f 1 i && names f 6 m e)))
       ≡ follows f (rule_numbered 12) (Dead e) (Within l r ∷ Dead u ∷ Within i m ∷ [])
   unfolding opened
   ri e l r u i m = simp (eqb_comm u (second (state_set_at f r)), chain)

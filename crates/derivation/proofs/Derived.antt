@@ -7,7 +7,8 @@ use mathlib.Core.List.{[], ◌∷◌}
 use lib.Dec.{ltb}
 use Rattle.certificate.specs.declared.Judgement.{Judgement}
 use Rattle.certificate.specs.declared.Step as code
-use Rattle.certificate.specs.declared.StepReply.{StepReply}
+use Rattle.std.specs.Prelude.{Result}
+use Rattle.certificate.specs.declared.StepFault.{StepFault}
 use Rattle.meaning.specs.File.{File}
 use Rattle.certificate.specs.Views.{judgement_at}
 use Rattle.numbers.specs.Numbers.{premises_of}
@@ -18,7 +19,7 @@ use Rattle.derivation.specs.StepReply.{rule_reply}
 use Rattle.formed.proofs.StepLaws.{derivation_premises}
 
 -- from the answer of the rule's own function, which was given as many premises as the rule has
-pub derived_by : (f : File) (rule : ℕ) (s : code.Step) {n : ℕ} {p q o : Judgement} {r : StepReply} → (6 ≤ rule) × (rule ≤ 28)
+pub derived_by : (f : File) (rule : ℕ) (s : code.Step) {n : ℕ} {p q o : Judgement} {r : Result (Unit {0}) StepFault} → (6 ≤ rule) × (rule ≤ 28)
     → n ≡ premises_of rule
     → (ltb 0 n ≡ true → p ≡ judgement_at f s.premises.first)
     → (ltb 1 n ≡ true → q ≡ judgement_at f s.premises.second)

@@ -24,7 +24,7 @@ use Rattle.certificate.proofs.KnownLaws.{read_file_lem, placed_steps}
 use Rattle.meaning.specs.Step.{entries_fit, well_formed}
 use Rattle.meaning.specs.Numbering.{with_rule}
 use Rattle.numbers.specs.Numbers.{premises_of, judgement_kind_of}
-use Rattle.numbers.proofs.TwoBits.{kind_bound}
+use Rattle.numbers.proofs.Table.{kind_bound}
 use Rattle.rules.specs.Derives.{kind_said}
 use Rattle.formed.specs.Formed.{entries_in, formed_under, formed, IsStep}
 use Rattle.rules.proofs.RuleLaws.{and_assoc, and_true, and_false, and_comm}
@@ -54,10 +54,6 @@ module _ (bytes : List ℕ) (at : Places) (k : ℕ) (s : code.Step) (h : IsStep 
 
   pub three_premises : (step_at (decoded bytes) k).premises ≡ listing (step_at (decoded bytes) k).premises
   three_premises = listed _ three_read
-
--- a test that fails and holds
-pub unused : {X : Type 0} {b : Bool} → b ≡ false → b ≡ true → X
-unused h k = let z : true ≡ false = cc in absurd (subst T z tt)
 
 -- 1, shifted by less than a word's length
 pub shifted : (n : ℕ) → n < 4 → 1 * 2 ^ (48 - 16 * n) % 18446744073709551616 ≡ 2 ^ (48 - 16 * n)

@@ -21,10 +21,9 @@ use Rattle.meaning.specs.Step.{Check, derivation, judgement_kind, premise_count,
 use Rattle.meaning.specs.Step.{check_step}
 use Rattle.meaning.proofs.Numbering.{rule_count, rule_past}
 use Rattle.numbers.specs.Numbers.{rule_table, premises_of, judgement_kind_of}
-use Rattle.numbers.proofs.TwoBits.{kind_bound}
+use Rattle.numbers.proofs.Table.{kind_bound}
 use Rattle.rules.specs.Derives.{is_some, derives, rule_numbered}
 use Rattle.formed.specs.Formed.{formed_under, formed}
-use Rattle.numbers.specs.declared.RuleNumber.{RuleNumber}
 
 -- ---- the rule with a number
 
@@ -36,7 +35,7 @@ at_index g (x ∷ xs) zero d l = (x, refl, refl)
 at_index g (x ∷ xs) (suc k) d l = at_index g xs k d (le_of_suc-le-suc l)
 
 -- what a rule carries
-abbrev carried : Check → RuleNumber
+abbrev carried : Check → ℕ × ℕ
 carried c = (premise_count c, judgement_kind c)
 
 -- rule n is known, with its premise count and its judgement kind
@@ -56,8 +55,8 @@ unfolding rule_at premises_of judgement_kind_of
 numbered f n l =
     let x = at_index carried (all_rules f) n (0, 0) (rw (rule_count f) l) in
     let e : carried x.0 ≡ get_or rule_table (suc n) (0, 0) =
-    x.2 ∙ ap (λ (t : List RuleNumber). get_or t (suc n) (0, 0)) (sym (table_right f)) in
-    record { rule = x.0; numbered = x.1; premises = ap (λ (r : RuleNumber). r.0) e; judgement = ap (λ (r : RuleNumber). r.1) e }
+    x.2 ∙ ap (λ (t : List (ℕ × ℕ)). get_or t (suc n) (0, 0)) (sym (table_right f)) in
+    record { rule = x.0; numbered = x.1; premises = ap (λ (r : ℕ × ℕ). r.0) e; judgement = ap (λ (r : ℕ × ℕ). r.1) e }
 
 -- the numbers 1 to 28 are rules' numbers
 pub rule_known : (f : File) (n : ℕ) → 1 ≤ n → n ≤ 28 → Numbered f n

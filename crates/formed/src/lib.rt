@@ -5,14 +5,16 @@ ghost use Rattle.std.specs.Prelude.{◌≡◌, ℕ, ◌<◌, ◌&&◌, List, [],
 ghost use Rattle.task.specs.Reach.{every};
 ghost use Rattle.meaning.specs.File.{File, step_at};
 ghost use Rattle.meaning.specs.Numbering.{with_rule};
+ghost use Rattle.certificate.specs.Views.{premise_list};
 ghost use Rattle.certificate.specs.Known.{decoded};
 ghost use Rattle.rules.specs.Derives.{kind_said};
 ghost use Rattle.formed.specs.Formed.{formed, IsStep, entries_in};
 
-use certificate::{Judgement, Places, Step};
+use certificate::{Judgement, Places, Premises, Step};
 use numbers::RuleNumber;
 
-// A judgement's kind, 0 to 3.
+// A judgement's kind, 0 to 3: a number, as the definition `kind_said` and the rules' judgement kinds are.
+#[tactic(auto, unfolding(rules::specs::Derives::kind_said))]
 fn kind_of(j: Judgement) -> u8
     ensures { result ≡ kind_said j }
 {
@@ -25,6 +27,7 @@ fn kind_of(j: Judgement) -> u8
 }
 
 // Whether the entries that a judgement is about are in a file of so many state and action sets.
+#[tactic(auto, unfolding(crate::specs::Formed::entries_in))]
 fn entries_fit(states: u16, actions: u16, j: Judgement) -> bool
     ensures { (f : File) → states ≡ length f.state_sets → actions ≡ length f.action_sets → result ≡ entries_in f j }
 {
@@ -37,15 +40,20 @@ fn entries_fit(states: u16, actions: u16, j: Judgement) -> bool
 }
 
 // Whether the premises of step k, of which so many are used, are earlier steps, and unused places are zero. The three places are one
-// number, whose end is unused: no branch goes by how many are used. Where unused places are zero they are earlier steps too, unless k
-// is 0.
-fn premises_fit(count: u8, a: u16, b: u16, c: u16, k: u16) -> bool
+// number, whose end is unused: with a branch for each count a file of rule steps takes a quarter longer. Where unused places are zero
+// they are earlier steps too, unless k is 0.
+fn premises_fit(count: u8, premises: Premises, k: u16) -> bool
     requires { count < 4 }
-    ensures { result ≡ (every (λ p. ltb p k) (take count (a ∷ b ∷ c ∷ [])) && every (λ p. eqb p 0) (drop count (a ∷ b ∷ c ∷ []))) }
+    ensures { result ≡ (every (λ p. ltb p k) (take count (premise_list premises)) && every (λ p. eqb p 0) (drop count (premise_list premises))) }
 {
-    let places = a as u64 * 4294967296 + b as u64 * 65536 + c as u64;
+    let Premises {
+        first,
+        second,
+        third,
+    } = premises;
+    let places = first as u64 * 4294967296 + second as u64 * 65536 + third as u64;
     let unused = places % (1 << (48 - 16 * count));
-    let earlier = (a < k) & (b < k) & (c < k);
+    let earlier = (first < k) & (second < k) & (third < k);
     (unused == 0) & ((count == 0) | earlier)
 }
 
@@ -54,16 +62,11 @@ fn premises_fit(count: u8, a: u16, b: u16, c: u16, k: u16) -> bool
 pub fn well_formed(at: Places, k: u16, rule: u8, s: Step) -> bool
     ensures { (bytes : List ℕ) → IsStep bytes at k s → result ≡ formed (decoded bytes) k (with_rule rule (step_at (decoded bytes) k)) }
 {
-    if rule < RuleNumber::B1 {
-        return false;
-    }
-    if RuleNumber::RP < rule {
+    if rule < RuleNumber::B1 || RuleNumber::RP < rule {
         return false;
     }
     let j = s.judgement;
     let fits = s.clean & (kind_of(j) == RuleNumber::judgement(rule));
     let count = RuleNumber::premises(rule);
-    let premises = s.premises;
-    fits & entries_fit(at.state_sets, at.action_sets, j)
-        & premises_fit(count, premises.first, premises.second, premises.third, k)
+    fits & entries_fit(at.state_sets, at.action_sets, j) & premises_fit(count, s.premises, k)
 }

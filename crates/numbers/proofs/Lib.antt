@@ -1,1 +1,1 @@
-pub mod TwoBits
+pub mod Table

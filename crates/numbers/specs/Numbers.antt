@@ -1,10 +1,9 @@
 -- Each rule's premise count and judgement kind, by its number.
 -- Assumes nothing.
 use Rattle.std.specs.Prelude.{ℕ, List, [], ◌∷◌, get_or}
-use Rattle.numbers.specs.declared.RuleNumber.{RuleNumber}
 
--- of 0, which is no rule, and of the rules 1 to 28
-unfoldable pub rule_table : List RuleNumber
+-- of 0, which is no rule, and of the rules 1 to 28: how many premises and which judgement kind
+unfoldable pub rule_table : List (ℕ × ℕ)
 rule_table =
     (0, 0) ∷ (0, 1) ∷ (0, 1) ∷ (0, 1) ∷ (0, 1) ∷ (0, 2)
     ∷ (0, 0) ∷ (2, 0) ∷ (2, 0) ∷ (3, 0) ∷ (3, 0) ∷ (3, 0) ∷ (3, 0) ∷ (1, 3) ∷ (1, 3)

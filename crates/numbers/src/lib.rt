@@ -1,29 +1,12 @@
 // The rules' numbers, premise counts and judgement kinds.
 #![tactic(auto)]
 
-ghost use Rattle.std.specs.Prelude.{◌≡◌, ◌*◌, ◌/◌, ◌%◌, ◌^◌, ◌<◌, ◌≤◌};
+ghost use Rattle.std.specs.Prelude.{◌≡◌};
 ghost use Rattle.numbers.specs.Numbers.{premises_of, judgement_kind_of};
 
-// A rule of document 01's list by its number: its premise count and its judgement kind.
-#[derive(Clone, Copy)]
-pub struct RuleNumber(pub u8, pub u8);
-
-// The premise counts of 0, which is no rule, and of the rules 1 to 28, two bits each, the lowest first; and their judgement kinds.
-// One word is read faster than a table.
-const PREMISES: u64 = 0x016aaa0017fe8000;
-
-const JUDGEMENTS: u64 = 0x015555557c000954;
-
-// The two bits of a number up to 28; 0 for one above.
-fn two_bits(word: u64, number: u8) -> u8
-    ensures { (number < 29 → result ≡ word / 2 ^ (2 * number) % 4) × (29 ≤ number → result ≡ 0) }
-{
-    if number < 29 {
-        ((word >> (2 * number)) % 4) as u8
-    } else {
-        0
-    }
-}
+// The rules of document 01's list: the number of each, and by a number how many premises its rule has and which judgement kind it gives.
+// Constants and no enum: the form that document 01 wants, and steps carry the number.
+pub struct RuleNumber;
 
 impl RuleNumber {
     pub const B1: u8 = 1;
@@ -83,16 +66,29 @@ impl RuleNumber {
     pub const RP: u8 = 28;
 
     // How many premises a rule has; 0 for a number that names none.
+    #[tactic(auto, using(crate::proofs::Table::premise_counts))]
     pub fn premises(number: u8) -> u8
         ensures { result ≡ premises_of number }
     {
-        two_bits(PREMISES, number)
+        match number {
+            RuleNumber::CI | RuleNumber::CG | RuleNumber::PR | RuleNumber::RP => 1,
+            RuleNumber::UD | RuleNumber::SD => 2,
+            RuleNumber::SU..=RuleNumber::PU => 2,
+            RuleNumber::PG..=RuleNumber::RI => 3,
+            _ => 0,
+        }
     }
 
     // The judgement kind that a rule gives; 0 for a number that names none.
+    #[tactic(auto, using(crate::proofs::Table::judgement_kinds))]
     pub fn judgement(number: u8) -> u8
         ensures { result ≡ judgement_kind_of number }
     {
-        two_bits(JUDGEMENTS, number)
+        match number {
+            RuleNumber::B1..=RuleNumber::B4 | RuleNumber::UR..=RuleNumber::RP => 1,
+            RuleNumber::B5 => 2,
+            RuleNumber::CI | RuleNumber::CG => 3,
+            _ => 0,
+        }
     }
 }

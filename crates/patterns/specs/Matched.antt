@@ -1,14 +1,9 @@
--- The reply that a test of a rule's pattern gives: document 01 has 9 where a pattern is not matched.
+-- What a test of a rule's pattern gives: a pattern that is not matched is document 01's 9.
 -- Assumes nothing.
-use Rattle.std.specs.Prelude.{Bool, true, false}
-use Rattle.certificate.specs.declared.StepReply.{StepReply}
-use Rattle.certificate.specs.declared.StepReply.TheVariants.{Passed, Refused}
+use Rattle.std.specs.Prelude.{Bool, true, false, Result, Ok, Err}
+use Rattle.certificate.specs.declared.StepFault.{StepFault}
+use Rattle.certificate.specs.declared.StepFault.TheVariants.{NotDerived}
 
-unfoldable pub matched : Bool → StepReply
-matched true = Passed
-matched false = Refused 9
-
--- two tests in turn
-unfoldable pub both : StepReply → StepReply → StepReply
-both Passed b = b
-both (Refused r) b = Refused r
+unfoldable pub matched : Bool → Result (Unit {0}) StepFault
+matched true = Ok tt
+matched false = Err NotDerived

@@ -1,17 +1,17 @@
--- A `match` on a rule's number: the arm of a rule, which reads as many premises as the rule has, and the arm that no rule is left for.
+-- A `match` on a rule's number: the arm of a rule, which reads as many premises as the rule has.
 -- Assumes nothing.
 use mathlib.Core.Path.{◌≡◌, refl, sym, ap, ◌∙◌}
-use Prim.Native.Nat.{ℕ, suc, ◌-◌, ◌≤◌}
+use Prim.Native.Nat.{ℕ, suc}
 use native.Mathlib.Omega.{arith}
 use mathlib.Core.Bool.{true}
 use mathlib.Core.List.{List, [], ◌∷◌}
 use lib.Dec.{ltb}
 use lib.ListN.{length}
 use borrow.Author.Tests.{lt-ltb}
-use Rattle.certificate.specs.declared.StepReply.{StepReply}
+use Rattle.std.specs.Prelude.{Result}
+use Rattle.certificate.specs.declared.StepFault.{StepFault}
 use Rattle.certificate.specs.declared.Judgement.{Judgement}
 use Rattle.meaning.specs.File.{File}
-use Rattle.certificate.proofs.TableLaws.{NoneOf, beyond}
 use Rattle.meaning.specs.Rules.{Pattern, Rule, ◌⊢◌}
 use Rattle.meaning.specs.Match.{Letters, no_letters, match_step}
 use Rattle.meaning.specs.Step.{derivation, premise_count}
@@ -65,10 +65,6 @@ module _ (f : File) where
       follows_alike (ps ⊢ c) _ _ refl (alike ps (λ t. h (ap (ltb 0) e ∙ t)) (λ t. k (ap (ltb 1) e ∙ t)) (λ t. l (ap (ltb 2) e ∙ t)))
 
   -- rule n's arm: what was found of the judgements taken apart holds of them whole, and of more than the rule has premises
-  pub arm : (n : ℕ) {rule : ℕ} {j j' : Judgement} (js ks : List Judgement) {b : StepReply} → rule ≡ n → b ≡ by_rule f n j' ks → j ≡ j'
+  pub arm : (n : ℕ) {rule : ℕ} {j j' : Judgement} (js ks : List Judgement) {b : Result (Unit {0}) StepFault} → rule ≡ n → b ≡ by_rule f n j' ks → j ≡ j'
       → AlikeFor (rule_numbered n) js ks → b ≡ by_rule f rule j js
   arm n js ks e q h t = rw e (q ∙ ap matched (sym (follows_alike (rule_numbered n) js ks h t)))
-
--- the arm that is left over
-pub no_arm : {X : Type 0} (from last k : ℕ) → (from ≤ k) × (k ≤ last) → NoneOf from (suc last - from) k → X
-no_arm from last k (lo, hi) r = let l = beyond from (suc last - from) k lo r in absurd (omega arith)

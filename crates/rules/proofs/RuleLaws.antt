@@ -10,20 +10,18 @@ use mathlib.Core.Option.{Option, none, some}
 use mathlib.Core.List.{List, [], ◌∷◌}
 use lib.Dec.{T, eqb, eqb→eq}
 use lib.ListN.{get_or}
-use denote.Enum.Declared.{tag_of}
-use types.Run.{OneOf}
 use Rattle.task.proofs.Tests.{both_ways, same, or_cases, each, each_at}
-use Rattle.certificate.specs.declared.StepReply.TheVariants.{Refused}
+use Rattle.std.specs.Prelude.{Err}
+use Rattle.certificate.specs.declared.StepFault.TheVariants.{NotDerived}
 use Rattle.certificate.specs.declared.Judgement.{Judgement}
 use Rattle.certificate.specs.declared.Judgement.TheVariants.{Dead, Within, ActionsWithin, Unsolvable}
 use Rattle.meaning.specs.File.{File, action_kind, basic_kind, state_kind, first, second, first_action, second_action}
-use Rattle.certificate.specs.contracts.Judgement as judgements
 use Rattle.meaning.specs.Rules.{Rule, ◌⊢◌, Pattern, rules, pattern_kind}
 use Rattle.meaning.specs.Match.{Letters, no_letters, ◌then◌, given, with_letter, stands_for}
 use Rattle.meaning.specs.Match.{of_kind, of_action_kind, matchᴬ, match, match_entries, match_step}
 use Rattle.patterns.specs.Tests.{of_sort, names, names_both, names_complement, names_goal, names_complement_goal, names_all}
 use Rattle.rules.specs.Derives.{is_some, rule_numbered, kind_said, left_said, right_said, saying, match_said, follows, by_rule}
-use Rattle.patterns.proofs.Views.{others, unlike, refused}
+use Rattle.patterns.proofs.Views.{refused}
 
 -- ---- a chain of tests
 
@@ -70,15 +68,33 @@ pub ruleset chain = (some_given, then_assoc, and_assoc, and_true, and_false)
 
 -- ---- a judgement of another kind
 
-tag_said : (j : Judgement) → tag_of judgements.the_type j ≡ kind_said j
+pub not_dead : (j : Judgement) → ((a : ℕ) → j ≡ Dead a → ⊥) → eqb (kind_said j) 0 ≡ false
 unfolding kind_said
-tag_said (Dead a) = refl
-tag_said (Within a b) = refl
-tag_said (ActionsWithin a b) = refl
-tag_said Unsolvable = refl
+not_dead (Dead a) h = absurd (h a refl)
+not_dead (Within a b) h = refl
+not_dead (ActionsWithin a b) h = refl
+not_dead Unsolvable h = refl
 
-pub other_kind : (j : Judgement) (k : ℕ) → OneOf (others k 0 4) (tag_of judgements.the_type j) → eqb (kind_said j) k ≡ false
-other_kind j k h = unlike k 0 4 (kind_said j) (rw (tag_said j) at h)
+pub not_within : (j : Judgement) → ((a b : ℕ) → j ≡ Within a b → ⊥) → eqb (kind_said j) 1 ≡ false
+unfolding kind_said
+not_within (Dead a) h = refl
+not_within (Within a b) h = absurd (h a b refl)
+not_within (ActionsWithin a b) h = refl
+not_within Unsolvable h = refl
+
+pub not_actions : (j : Judgement) → ((a b : ℕ) → j ≡ ActionsWithin a b → ⊥) → eqb (kind_said j) 2 ≡ false
+unfolding kind_said
+not_actions (Dead a) h = refl
+not_actions (Within a b) h = refl
+not_actions (ActionsWithin a b) h = absurd (h a b refl)
+not_actions Unsolvable h = refl
+
+pub not_unsolvable : (j : Judgement) → (j ≡ Unsolvable → ⊥) → eqb (kind_said j) 3 ≡ false
+unfolding kind_said
+not_unsolvable (Dead a) h = refl
+not_unsolvable (Within a b) h = refl
+not_unsolvable (ActionsWithin a b) h = refl
+not_unsolvable Unsolvable h = absurd (h refl)
 
 -- a rule asks for kind k of its conclusion, i being 0, or of premise i, counted from 1
 abbrev asked : List Pattern → ℕ → ℕ → Bool
@@ -119,9 +135,9 @@ module _ (f : File) (k : ℕ) where
 
 -- a step or premise of another judgement kind than the rule asks for
 pub other_said : (f : File) (n i k : ℕ) (j : Judgement) (js : List Judgement) → T (asks (rule_numbered n) i k)
-    → OneOf (others k 0 4) (tag_of judgements.the_type (get_or (j ∷ js) i Unsolvable)) → Refused 9 ≡ by_rule f n j js
+    → eqb (kind_said (get_or (j ∷ js) i Unsolvable)) k ≡ false → Err NotDerived ≡ by_rule f n j js
 other_said f n i k j js t h =
-    refused _ (unmatched f k (rule_numbered n) i j js t (other_kind (get_or (j ∷ js) i Unsolvable) k h))
+    refused _ (unmatched f k (rule_numbered n) i j js t h)
 
 -- ---- a range of rules
 
@@ -134,15 +150,15 @@ ranged t from last k h (lo, hi) =
 -- a step or premise of another judgement kind than each rule from `from` to `last` asks for
 pub other_among : (f : File) (from last i k : ℕ) {rule : ℕ} (j : Judgement) (js : List Judgement)
     → T (each (λ m. asks (rule_numbered (from + m)) i k) (suc last - from))
-    → (from ≤ rule) × (rule ≤ last) → OneOf (others k 0 4) (tag_of judgements.the_type (get_or (j ∷ js) i Unsolvable))
-    → Refused 9 ≡ by_rule f rule j js
+    → (from ≤ rule) × (rule ≤ last) → eqb (kind_said (get_or (j ∷ js) i Unsolvable)) k ≡ false
+    → Err NotDerived ≡ by_rule f rule j js
 other_among f from last i k {rule} j js t h = other_said f rule i k j js (ranged (λ m. asks (rule_numbered m) i k) from last rule t h)
 
 -- the same of these rules without rule x
 pub other_but : (f : File) (from last x i k : ℕ) {rule : ℕ} (j : Judgement) (js : List Judgement)
     → T (each (λ m. eqb (from + m) x || asks (rule_numbered (from + m)) i k) (suc last - from))
-    → (from ≤ rule) × (rule ≤ last) → (rule ≡ x → ⊥) → OneOf (others k 0 4) (tag_of judgements.the_type (get_or (j ∷ js) i Unsolvable))
-    → Refused 9 ≡ by_rule f rule j js
+    → (from ≤ rule) × (rule ≤ last) → (rule ≡ x → ⊥) → eqb (kind_said (get_or (j ∷ js) i Unsolvable)) k ≡ false
+    → Err NotDerived ≡ by_rule f rule j js
 other_but f from last x i k {rule} j js t h but =
     other_said f rule i k j js
     (elim (or_cases (eqb rule x) (asks (rule_numbered rule) i k) (ranged (λ m. eqb m x || asks (rule_numbered m) i k) from last rule t h)) [

@@ -1,8 +1,8 @@
 -- When a step is derived by a rule, as one test; and the same of judgements as values, each with the entries it is about.
 -- Assumes nothing.
-use Rattle.std.specs.Prelude.{ℕ, ◌-◌, Bool, true, false, List, [], ◌∷◌, get_or}
+use Rattle.std.specs.Prelude.{ℕ, ◌-◌, Bool, true, false, List, [], ◌∷◌, get_or, Result}
 use Rattle.std.proofs.Math.Option.{Option, none, some}
-use Rattle.certificate.specs.declared.StepReply.{StepReply}
+use Rattle.certificate.specs.declared.StepFault.{StepFault}
 use Rattle.certificate.specs.declared.Judgement.{Judgement}
 use Rattle.certificate.specs.declared.Judgement.TheVariants.{Dead, Within, ActionsWithin, Unsolvable}
 use Rattle.meaning.specs.File.{Step, File}
@@ -55,6 +55,6 @@ module _ (f : File) where
   unfoldable pub follows : Rule → Judgement → List Judgement → Bool
   follows (ps ⊢ c) j js = is_some (match_step f c (saying j) no_letters then match_said ps js)
 
-  -- the reply to rule n's pattern, of what a step and its premises say
-  abbrev pub by_rule : ℕ → Judgement → List Judgement → StepReply
+  -- what the test of rule n's pattern gives, of what a step and its premises say
+  abbrev pub by_rule : ℕ → Judgement → List Judgement → Result (Unit {0}) StepFault
   by_rule n j js = matched (follows (rule_numbered n) j js)

@@ -3,29 +3,24 @@
 use mathlib.Core.Path.{◌≡◌, refl, sym, ap, ◌∙◌, subst}
 use Prim.Native.Nat.{ℕ, zero, suc, ◌+◌, ◌-◌, ◌≤◌, ◌<◌}
 use native.Mathlib.Omega.{arith}
-use mathlib.Core.Bool.{Bool, true, false}
-use mathlib.Core.Option.{Option, none, some}
-use mathlib.Core.List.{List, [], ◌∷◌}
+use mathlib.Core.List.{List}
 use lib.ListN.{length, drop, get_or}
 use lib.Dec.{eqb}
 use borrow.Author.Tests.{ne_eqb}
-use denote.Enum.Declared.{tag_of}
-use types.Run.{OneOf, miss}
 use Rattle.certificate.specs.declared.Places.{Places}
+use Rattle.certificate.specs.declared.Judgement.{Judgement}
 use Rattle.certificate.specs.declared.Judgement.TheVariants.{Unsolvable}
-use Rattle.certificate.specs.contracts.Judgement as judgements
-use Rattle.certificate.specs.declared.StepReply.{StepReply}
-use Rattle.certificate.specs.declared.StepReply.TheVariants as step
-use Rattle.meaning.specs.Result.{Result, refuse, found, ◌>>=◌, need, known}
+use Rattle.std.specs.Prelude.{Result, Ok, Err}
+use Rattle.certificate.specs.declared.StepFault.{StepFault}
+use Rattle.certificate.specs.Faults.{number_of}
+use Rattle.meaning.specs.Result.{◌>>=◌, need}
 use Rattle.meaning.specs.File.{Step, File, step_at}
-use Rattle.certificate.specs.declared.Step as code
-use Rattle.certificate.specs.Views.{judgement_of, judgement_at, step_of}
+use Rattle.certificate.specs.Views.{judgement_of, judgement_at}
 use Rattle.certificate.specs.Known.{Placed}
 use Rattle.certificate.proofs.KnownLaws.{read_file_lem, placed_steps}
 use Rattle.formed.proofs.StepLaws.{passed_kind}
-use Rattle.meaning.specs.Step.{Check, statement, derivation, rule_at, check_by, check_step}
-use Rattle.meaning.specs.Rules.{◌⊢◌}
-use Rattle.derivation.specs.StepReply.{step_reply}
+use Rattle.meaning.specs.Step.{check_step}
+use Rattle.derivation.specs.StepReply.{outcome}
 use Rattle.meaning.specs.declared.Reply.{Reply}
 use Rattle.meaning.specs.declared.Reply.TheVariants.{Accepted, Refused}
 use Rattle.meaning.specs.Reply.{check_steps, check_last, check_from, reply_to}
@@ -36,44 +31,6 @@ use Rattle.meaning.proofs.Rounds.{first_step, each_passes, all_left, rest_passed
 use Rattle.meaning.proofs.Results.{bind_found, bind_refused}
 use Rattle.meaning.proofs.Refusals.{accepted_out, reply_refused}
 use Rattle.meaning.proofs.RuleBytes.{count_stays, step_stays, step_renamed, checked_same}
-
--- ---- a step's refusal names the step
-
--- the result that a reply at step i stands for
-placed : ℕ → StepReply → Result (Unit {0})
-placed i step.Passed = found tt
-placed i (step.Refused r) = refuse r i
-
-Own : ℕ → Result (Unit {0}) → Type 0
-Own i x = x ≡ placed i (step_reply x)
-
-own_found : (i : ℕ) → Own i (found tt)
-unfolding Own placed step_reply
-own_found i = refl
-
-own_need : (b : Bool) (r i : ℕ) → Own i (need b r i)
-unfolding need Own placed step_reply
-own_need true r i = refl
-own_need false r i = refl
-
-own_need_then : (b : Bool) (r i : ℕ) (k : Unit {0} → Result (Unit {0})) → Own i (k tt) → Own i (need b r i >>= k)
-unfolding need ◌>>=◌ Own placed step_reply
-own_need_then true r i k h = h
-own_need_then false r i k h = refl
-
-own_known_then : {X : Type 0} (o : Option X) (r i : ℕ) (k : X → Result (Unit {0})) → ((x : X) → Own i (k x)) → Own i (known o r i >>= k)
-unfolding known ◌>>=◌ Own placed step_reply
-own_known_then none r i k h = refl
-own_known_then (some x) r i k h = h x
-
-own_check : (f : File) (i : ℕ) (s : Step) (c : Check) → Own i (check_by f i s c)
-unfolding check_by
-own_check f i s (statement b) = own_need_then _ 10 i _ (own_need _ 11 i)
-own_check f i s (derivation (ps ⊢ c)) = own_known_then _ 9 i _ (λ σ. own_known_then _ 9 i (λ _. found tt) (λ _. own_found i))
-
-own_step : (f : File) (i : ℕ) (s : Step) → Own i (check_step f i s)
-unfolding check_step
-own_step f i s = own_known_then (rule_at f s.rule) 8 i _ (λ r. own_need_then _ 8 i _ (own_check f i s r))
 
 -- ---- some steps in turn
 
@@ -96,23 +53,17 @@ module _ (f : File) (from count : ℕ) where
       let z : suc (from + count - suc k) ≡ from + count - k = omega arith in
       sym (first_step f (from + count - suc k) k l) ∙ ap (check_some f k) z ∙ h
 
-  step_found : (k : ℕ) {r : StepReply} → r ≡ step.Passed → r ≡ step_reply (check_step f k (step_at f k))
-      → check_step f k (step_at f k) ≡ found tt
-  unfolding placed Own
-  step_found k t e = own_step f k (step_at f k) ∙ ap (placed k) (sym e ∙ t)
+  pub step_passed : (k : ℕ) → k < from + count → k < length f.steps → Passing k
+      → outcome k (Ok tt) ≡ check_step f k (step_at f k) → Passing (k + 1)
+  unfolding Passing outcome
+  step_passed k m l h e =
+      subst Passing (succ_is k) (sym (bind_found (λ _. check_some f (suc k) (from + count - suc k)) (sym e)) ∙ next k m l h)
 
-  pub step_passed : (k : ℕ) {r : StepReply} → k < from + count → k < length f.steps → Passing k → r ≡ step.Passed
-      → r ≡ step_reply (check_step f k (step_at f k)) → Passing (k + 1)
-  unfolding Passing
-  step_passed k m l h t e =
-      subst Passing (succ_is k) (sym (bind_found (λ _. check_some f (suc k) (from + count - suc k)) (step_found k t e)) ∙ next k m l h)
-
-  pub step_refused : (k n : ℕ) {r : StepReply} → k < from + count → k < length f.steps → Passing k → r ≡ step.Refused n
-      → r ≡ step_reply (check_step f k (step_at f k)) → Refused n k ≡ reply_to (check_some f from count)
-  unfolding placed Own reply_to
-  step_refused k n m l h t e =
-      let q : check_step f k (step_at f k) ≡ refuse n k = own_step f k (step_at f k) ∙ ap (placed k) (sym e ∙ t) in
-      ap reply_to (sym (bind_refused (λ _. check_some f (suc k) (from + count - suc k)) q) ∙ next k m l h)
+  pub step_refused : (k : ℕ) (fault : StepFault) → k < from + count → k < length f.steps → Passing k
+      → outcome k (Err fault) ≡ check_step f k (step_at f k) → Refused (number_of fault) k ≡ reply_to (check_some f from count)
+  unfolding outcome reply_to
+  step_refused k fault m l h e =
+      ap reply_to (sym (bind_refused (λ _. check_some f (suc k) (from + count - suc k)) (sym e)) ∙ next k m l h)
 
   -- none is left
   pub steps_passed : (k : ℕ) → from + count ≤ k → Passing k → Accepted ≡ reply_to (check_some f from count)
@@ -129,27 +80,26 @@ module _ (g : ℕ → ℕ) (f : File) where
   as_many_steps = count_stays g f.steps
 
   -- step k by the rule that its number stands for, as a table has it, is the rewritten file's step
-  module _ (from count k : ℕ) (rules : List ℕ) {rule : ℕ} {r : StepReply} (stands : Stands rules g) (m : k < from + count)
+  module _ (from count k : ℕ) (rules : List ℕ) (rule : ℕ) (r : Result (Unit {0}) StepFault) (stands : Stands rules g) (m : k < from + count)
       (l : k < length f.steps) (looked-up : (rule ≡ get_or rules (step_at f k).rule 0) × ((step_at f k).rule < 256))
-      (e : r ≡ step_reply (check_step f k (with_rule rule (step_at f k)))) where
+      (e : outcome k r ≡ check_step f k (with_rule rule (step_at f k))) where
     rule_meant_lem : rule ≡ g (step_at f k).rule
     rule_meant_lem = looked-up.0 ∙ stands (step_at f k).rule looked-up.1
 
-    told : r ≡ step_reply (check_step (rewritten g f) k (step_at (rewritten g f) k))
+    told : outcome k r ≡ check_step (rewritten g f) k (step_at (rewritten g f) k)
     told =
-        e
-        ∙ ap step_reply (ap (λ (x : ℕ). check_step f k (with_rule x (step_at f k))) rule_meant_lem ∙ ap (check_step f k) (sym (step_renamed g f k l))
-        ∙ sym (checked_same g f k (step_at (rewritten g f) k)))
+        e ∙ ap (λ (x : ℕ). check_step f k (with_rule x (step_at f k))) rule_meant_lem ∙ ap (check_step f k) (sym (step_renamed g f k l))
+        ∙ sym (checked_same g f k (step_at (rewritten g f) k))
 
     inside : k < length (rewritten g f).steps
     inside = let n = as_many_steps in omega arith
 
-    pub refused_as : (n : ℕ) → Passing (rewritten g f) from count k → r ≡ step.Refused n
-        → Refused n k ≡ reply_to (check_some (rewritten g f) from count)
-    refused_as n h t = step_refused (rewritten g f) from count k n m inside h t told
+    pub refused_as : (fault : StepFault) → Passing (rewritten g f) from count k → r ≡ Err fault
+        → Refused (number_of fault) k ≡ reply_to (check_some (rewritten g f) from count)
+    refused_as fault h t = step_refused (rewritten g f) from count k fault m inside h (ap (outcome k) (sym t) ∙ told)
 
-    pub passed_as : Passing (rewritten g f) from count k → r ≡ step.Passed → Passing (rewritten g f) from count (k + 1)
-    passed_as h t = step_passed (rewritten g f) from count k m inside h t told
+    pub passed_as : Passing (rewritten g f) from count k → r ≡ Ok tt → Passing (rewritten g f) from count (k + 1)
+    passed_as h t = step_passed (rewritten g f) from count k m inside h (ap (outcome k) (sym t) ∙ told)
 
 -- ---- all steps from one on, and the last one's judgement
 
@@ -174,13 +124,17 @@ module _ (f : File) (from count : ℕ) {x : Reply} (all : from + count ≡ lengt
       )
 
 -- the same of a file of n steps with its rules rewritten; they do not matter to the last step's judgement
-module _ (g : ℕ → ℕ) (f : File) (n from : ℕ) {x : Reply} (count : n ≡ length f.steps) (below : from < n)
+module _ (g : ℕ → ℕ) (f : File) (n from : ℕ) (x : Reply) (count : n ≡ length f.steps) (below : from < n)
     (e : x ≡ reply_to (check_some (rewritten g f) from (n - from))) where
   all : from + (n - from) ≡ length (rewritten g f).steps
   all = let m = as_many_steps g f in omega arith
 
-  pub refused_from : (r p : ℕ) → x ≡ Refused r p → Refused r p ≡ reply_to (check_from (rewritten g f) from)
-  refused_from = from_refused (rewritten g f) from (n - from) all e
+  pub refused_from : (x ≡ Accepted → ⊥) → x ≡ reply_to (check_from (rewritten g f) from)
+  refused_from = go x refl
+    where
+      go : (y : Reply) → x ≡ y → (x ≡ Accepted → ⊥) → x ≡ reply_to (check_from (rewritten g f) from)
+      go Accepted t not = absurd (not t)
+      go (Refused r p) t not = t ∙ from_refused (rewritten g f) from (n - from) all e r p t
 
   last_same : check_last (rewritten g f) ≡ check_last f
   last_same =
@@ -216,18 +170,15 @@ unsolvable_kind (suc (suc zero)) a b l e = let y : ◌≡◌ {A = ℕ} 0 1 = cc 
 unsolvable_kind (suc (suc (suc k))) a b l e = omega arith
 
 -- of a file with n steps
-module _ (f : File) (n : ℕ) {s : code.Step} (count : n ≡ length f.steps) (is : s ≡ step_of (step_at f (n - 1))) where
-  said : s.judgement ≡ judgement_at f (n - 1)
-  unfolding judgement_at step_of
-  said = ap (λ (x : code.Step). x.judgement) is
-
+module _ (f : File) (n : ℕ) {j : Judgement} (count : n ≡ length f.steps) (said : j ≡ judgement_at f (n - 1)) where
   last : reply_to (need (eqb (step_at f (n - 1)).kind 3) 12 (n - 1)) ≡ reply_to (check_last f)
   last = ap (λ (m : ℕ). reply_to (need (eqb (step_at f (m - 1)).kind 3) 12 (m - 1))) count
 
-  pub last_says : (step_at f (n - 1)).kind < 4 → s.judgement ≡ Unsolvable → Accepted ≡ reply_to (check_last f)
+  pub last_says : (step_at f (n - 1)).kind < 4 → j ≡ Unsolvable → Accepted ≡ reply_to (check_last f)
   unfolding reply_to need judgement_at
   last_says l h = rw (unsolvable_kind (step_at f (n - 1)).kind (step_at f (n - 1)).left (step_at f (n - 1)).right l (sym said ∙ h)) at last
 
-  pub last_says_not : OneOf (0 ∷ 1 ∷ 2 ∷ []) (tag_of judgements.the_type s.judgement) → Refused 12 (n - 1) ≡ reply_to (check_last f)
+  pub last_says_not : (j ≡ Unsolvable → ⊥) → Refused 12 (n - 1) ≡ reply_to (check_last f)
   unfolding reply_to need judgement_at judgement_of
-  last_says_not h = rw (ne_eqb (step_at f (n - 1)).kind 3 (λ q. miss (0 ∷ 1 ∷ 2 ∷ []) 3 tt (rw (said, q) at h))) at last
+  last_says_not h =
+      rw (ne_eqb (step_at f (n - 1)).kind 3 (λ q. h (said ∙ ap (λ (k : ℕ). judgement_of k (step_at f (n - 1)).left (step_at f (n - 1)).right) q))) at last

@@ -7,7 +7,8 @@ use mathlib.Core.List.{[], ◌∷◌}
 use lib.Dec.{eqb}
 use Rattle.certificate.specs.declared.StateEntry.{StateEntry}
 use Rattle.certificate.specs.declared.StateEntry.TheVariants.{Intersection, Union}
-use Rattle.certificate.specs.declared.StepReply.{StepReply}
+use Rattle.std.specs.Prelude.{Result}
+use Rattle.certificate.specs.declared.StepFault.{StepFault}
 use Rattle.certificate.specs.declared.Judgement.TheVariants.{Within, ActionsWithin}
 use Rattle.certificate.specs.Views.{view_of}
 use Rattle.meaning.specs.File.{either, intersection, union, progression, regression, File, action_set_at, state_set_at, first, second}
@@ -18,7 +19,7 @@ use Rattle.rules.specs.Derives.{rule_numbered, follows, by_rule}
 use Rattle.rules.proofs.RuleLaws.{and_comm, and_swap, and_reverse, eqb_comm, chain, opened}
 
 -- UR, UL, IR and IL take one entry apart, and the other is one of those that it names
-module _ (f : File) (p l r : ℕ) {v : StateEntry} {s u : ℕ} {reply : StepReply} where
+module _ (f : File) (p l r : ℕ) {v : StateEntry} {s u : ℕ} {reply : Result (Unit {0}) StepFault} where
   -- 15 UR: S<S+U
   pub ur : v ≡ view_of p (state_set_at f r) → v ≡ Union s u → reply ≡ matched (eqb s l) → reply ≡ by_rule f 15 (Within l r) []
   unfolding opened
@@ -86,7 +87,7 @@ module _ (f : File) where
 
   -- 24 AU: S[A]<U, S[B]<U; S[A+B]<U
   pub au : (l r a b c d s n x y : ℕ) → state_set_at f l ≡ progression s n → action_set_at f n ≡ either x y
-      → (names_both f 9 a s x && eqb b r && (names_both f 9 c s y && eqb d r))
+      → (names_both f 9 a s x && (eqb b r && (names_both f 9 c s y && eqb d r)))
       ≡ follows f (rule_numbered 24) (Within l r) (Within a b ∷ Within c d ∷ [])
   unfolding opened
   au l r a b c d s n x y h1 h2 = simp (h1, h2, chain)
@@ -105,7 +106,7 @@ module _ (f : File) where
 
   -- 26 PU: S[A]<W, U[A]<W; (S+U)[A]<W
   pub pu : (l r a b c d e n s u : ℕ) → state_set_at f l ≡ progression e n → state_set_at f e ≡ union s u
-      → (names_both f 9 a s n && eqb b r && (names_both f 9 c u n && eqb d r))
+      → (names_both f 9 a s n && (eqb b r && (names_both f 9 c u n && eqb d r)))
       ≡ follows f (rule_numbered 26) (Within l r) (Within a b ∷ Within c d ∷ [])
   unfolding opened
   pu l r a b c d e n s u h1 h2 = simp (h1, h2, chain)

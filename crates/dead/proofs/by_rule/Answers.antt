@@ -2,17 +2,15 @@
 -- Assumes nothing.
 use mathlib.Core.Path.{refl, ap, ◌∙◌}
 use native.Mathlib.Omega.{arith}
-use borrow.Author.Rules.{rules}
 use Rattle.patterns.specs.Matched.{matched}
-use Rattle.rules.proofs.RuleLaws.{listed, other_among}
+use Rattle.rules.proofs.RuleLaws.{listed, not_dead, other_among}
 use Rattle.dead.proofs.DeadRules.{ed}
 use Rattle.rules.proofs.Dispatch.{arm}
-use borrow.Enum.Refused.{opened as among}
 use Rattle.dead.proofs.by_rule.Goals as goal
 
 pub returns-in_default : goal.returns-in_default
 unfolding listed
-returns-in_default c = other_among _ 6 12 0 0 _ _ tt (c.requires.le_rule.0, omega arith) (among c.in_default.in_default-own.keys2)
+returns-in_default c = other_among _ 6 12 0 0 _ _ tt (c.requires.0, omega arith) (not_dead _ c.in_default.not-Dead)
 
 pub returns-in-6 : goal.returns-in-6
 unfolding listed

@@ -1,7 +1,6 @@
 -- `dead::sd` meets its contract: SD's tests in turn.
 -- Assumes nothing.
 use mathlib.Core.Path.{◌∙◌, ap}
-use borrow.Author.Rules.{rules}
 use Rattle.patterns.specs.Matched.{matched}
 use Rattle.rules.proofs.RuleLaws.{chain, opened}
 use Rattle.dead.proofs.sd.Goals as goal

@@ -1,22 +1,18 @@
--- `dead::ud` meets its contract: UD's tests in turn, and nothing matches a judgement of another kind.
+-- `dead::ud` meets its contract: UD's test, and nothing matches a judgement of another kind.
 -- Assumes nothing.
 use mathlib.Core.Path.{◌∙◌, ap}
-use borrow.Author.Rules.{rules}
 use Rattle.patterns.specs.Matched.{matched}
-use Rattle.rules.proofs.RuleLaws.{listed, other_said}
+use Rattle.rules.proofs.RuleLaws.{listed, not_dead, other_said}
 use Rattle.dead.proofs.DeadRules.{ud}
-use borrow.Enum.Refused.{opened as among}
 use Rattle.dead.proofs.ud.Goals as goal
 
 pub returns-in_default : goal.returns-in_default
 unfolding listed
-returns-in_default c = other_said _ 7 1 0 _ _ tt (among c.in_default.in_default-own.keys2)
+returns-in_default c = other_said _ 7 1 0 _ _ tt (not_dead _ c.in_default.not-Dead)
 
 pub returns-in_default-q : goal.returns-in_default-q
 unfolding listed
-returns-in_default-q c = other_said _ 7 2 0 _ _ tt (among c.in_default-q.in_default-q-own.keys2)
+returns-in_default-q c = other_said _ 7 2 0 _ _ tt (not_dead _ c.in_default-q.not-Dead)
 
 pub returns : goal.returns
-returns c =
-    let q = c in
-    rw (q.in-Dead.is, q.in-Dead-q.is) (c.is_union.ensures ∙ ap matched (ud _ _ _ _))
+returns c = rw (c.in-Dead.is, c.in-Dead-q.is) (c.is_union.ensures ∙ ap matched (ud _ _ _ _))

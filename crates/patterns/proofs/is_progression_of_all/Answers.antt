@@ -1,17 +1,19 @@
 -- `patterns::is_progression_of_all` meets its contract: another case is another kind; the wanted one tells what the entry names.
 -- Assumes nothing.
-use borrow.Enum.Refused.{opened}
 use borrow.Author.Rules.{rules}
-use Rattle.patterns.proofs.Views.{taken, other, refused, both_matched, tests}
+use Rattle.patterns.proofs.Views.{taken, no_progression, refused, went_on, stopped, tests}
 use Rattle.patterns.proofs.is_progression_of_all.Goals as goal
 
 pub returns-in_default : goal.returns-in_default
 unfolding tests
-returns-in_default c = refused _ (rw (other _ _ c.state_set.ensures 9 (opened c.in_default.in_default-own.keys2)))
+returns-in_default c = refused _ (rw (no_progression _ _ c.state_set.ensures c.in_default.not-Progression))
+
+pub returns-in_err-matched : goal.returns-in_err-matched
+unfolding tests
+returns-in_err-matched c =
+    rw (taken _ _ c.state_set.ensures c.in-Progression.is) (stopped _ _ c.in_err-matched.ensures (search rules))
 
 pub returns : goal.returns
 unfolding tests
 returns c =
-    let a = c in
-    rw (taken _ _ a.state_set.ensures a.in-Progression.is)
-    (both_matched _ _ c.both.ensures c.matched.ensures c.is_all.ensures)
+    rw (taken _ _ c.state_set.ensures c.in-Progression.is) (went_on _ _ c.in_ok-matched.ensures c.is_all.ensures)

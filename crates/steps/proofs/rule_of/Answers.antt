@@ -12,7 +12,6 @@ use Rattle.steps.proofs.rule_of.Goals as goal
 pub returns : goal.returns
 unfolding step_of
 returns c l =
-    let s = c in
-    let byte : s.step-s.result.rule < 256 = search rules in
-    let same = ap (λ (x : code.Step). x.rule) s.step-s.ensures in
-    (ap (λ (x : ℕ). get_or s.args.rules.now x 0) same, omega (arith, same, byte))
+    let byte : c.step-s.result.rule < 256 = search rules in
+    let same = ap (λ (x : code.Step). x.rule) c.step-s.ensures in
+    (ap (λ (x : ℕ). get_or c.args.rules.now x 0) same, omega (arith, same, byte))

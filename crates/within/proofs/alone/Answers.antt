@@ -1,14 +1,12 @@
 -- `within::alone` meets its contract: each arm is its rule's, and none of the rules gives a judgement of another kind.
 -- Assumes nothing.
-use borrow.Author.Rules.{rules}
-use Rattle.rules.proofs.RuleLaws.{listed, other_among}
-use Rattle.rules.proofs.Dispatch.{arm, no_arm}
-use borrow.Enum.Refused.{opened as among}
+use Rattle.rules.proofs.RuleLaws.{listed, not_within, other_among}
+use Rattle.rules.proofs.Dispatch.{arm}
 use Rattle.within.proofs.alone.Goals as goal
 
 pub returns-in_default : goal.returns-in_default
 unfolding listed
-returns-in_default c = λ js. other_among _ 15 19 0 1 _ _ tt c.requires.le_rule (among c.in_default.in_default-own.keys2)
+returns-in_default c = λ js. other_among _ 15 19 0 1 _ _ tt c.requires (not_within _ c.in_default.not-Within)
 
 pub returns-in-15 : goal.returns-in-15
 unfolding listed

@@ -5,33 +5,36 @@ use borrow.Author.Rules.{rules}
 use Rattle.patterns.specs.Matched.{matched}
 use Rattle.rules.proofs.RuleLaws.{opened}
 use Rattle.within.proofs.WithinRules.{au}
-use Rattle.patterns.proofs.Views.{other, taken, otherᴬ, takenᴬ, refused, both_matched}
-use borrow.Enum.Refused.{opened as among}
+use Rattle.patterns.proofs.Views.{no_progression, not_either, taken, takenᴬ, refused, went_on, stopped}
 use Rattle.within.proofs.au.Goals as goal
 
 pub returns-in_default : goal.returns-in_default
 unfolding opened
-returns-in_default c = refused _ (rw (other _ _ c.state_set.ensures 9 (among c.in_default.in_default-own.keys2)))
+returns-in_default c = refused _ (rw (no_progression _ _ c.state_set.ensures c.in_default.not-Progression))
 
 pub returns-in_default-action_set : goal.returns-in_default-action_set
 unfolding opened
 returns-in_default-action_set c =
-    let s = c in
     refused _
     (rw (
-      taken _ _ s.state_set.ensures s.in-Progression.is,
-      otherᴬ _ _ c.action_set.ensures 2 (among c.in_default-action_set.in_default-action_set-own.keys2),
+      taken _ _ c.state_set.ensures c.in-Progression.is,
+      not_either _ _ c.action_set.ensures c.in_default-action_set.not-Either,
     ))
+
+pub returns-in_err-is_progression : goal.returns-in_err-is_progression
+returns-in_err-is_progression c =
+    stopped _ _ c.in_err-is_progression.ensures (search rules) ∙ ap matched (au _ _ _ _ _ _ _ _ _ _ _ (taken _ _ c.state_set.ensures c.in-Progression.is) (takenᴬ _ _ c.action_set.ensures c.in-Either.is))
+
+pub returns-in_err-matched : goal.returns-in_err-matched
+returns-in_err-matched c =
+    went_on _ _ c.in_ok-is_progression.ensures (stopped _ _ c.in_err-matched.ensures (search rules)) ∙ ap matched (au _ _ _ _ _ _ _ _ _ _ _ (taken _ _ c.state_set.ensures c.in-Progression.is) (takenᴬ _ _ c.action_set.ensures c.in-Either.is))
+
+pub returns-in_err-is_progression-2 : goal.returns-in_err-is_progression-2
+returns-in_err-is_progression-2 c =
+    went_on _ _ c.in_ok-is_progression.ensures
+    (went_on _ _ c.in_ok-matched.ensures (stopped _ _ c.in_err-is_progression-2.ensures (search rules))) ∙ ap matched (au _ _ _ _ _ _ _ _ _ _ _ (taken _ _ c.state_set.ensures c.in-Progression.is) (takenᴬ _ _ c.action_set.ensures c.in-Either.is))
 
 pub returns : goal.returns
 returns c =
-    let second = c in
-    let first = second in
-    let x = first in
-    let s = x in
-    both_matched _ _ c.both-2.ensures
-    (both_matched _ _ first.both-first.ensures first.is_progression.ensures first.matched.ensures)
-    (both_matched _ _ second.both.ensures second.is_progression-2.ensures second.matched-2.ensures)
-    ∙ ap matched
-    (au _ _ _ _ _ _ _ _ _ _ _ (taken _ _ s.state_set.ensures s.in-Progression.is)
-    (takenᴬ _ _ x.action_set.ensures x.in-Either.is))
+    went_on _ _ c.in_ok-is_progression.ensures
+    (went_on _ _ c.in_ok-matched.ensures (went_on _ _ c.in_ok-is_progression-2.ensures c.matched-2.ensures)) ∙ ap matched (au _ _ _ _ _ _ _ _ _ _ _ (taken _ _ c.state_set.ensures c.in-Progression.is) (takenᴬ _ _ c.action_set.ensures c.in-Either.is))

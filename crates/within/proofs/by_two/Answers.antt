@@ -1,17 +1,14 @@
 -- `within::by_two` meets its contract: each arm is its rule's, and each of the rules asks for an inclusion of state sets.
 -- Assumes nothing.
 use mathlib.Core.Path.{refl}
-use borrow.Author.Rules.{rules}
-use Rattle.rules.proofs.RuleLaws.{listed, other_but}
-use Rattle.rules.proofs.Dispatch.{arm, no_arm}
-use borrow.Enum.Refused.{opened as among}
+use Rattle.rules.proofs.RuleLaws.{listed, not_within, other_but}
+use Rattle.rules.proofs.Dispatch.{arm}
 use Rattle.within.proofs.by_two.Goals as goal
 
 pub returns-in_default : goal.returns-in_default
 unfolding listed
 returns-in_default c =
-    let s = c in
-    λ js. other_but _ 20 26 23 2 1 _ _ tt s.requires.le_rule s.requires.fact (among c.in_default.in_default-own.keys2)
+    λ js. other_but _ 20 26 23 2 1 _ _ tt c.requires.le_rule c.requires.fact (not_within _ c.in_default.not-Within)
 
 pub returns-in-20 : goal.returns-in-20
 unfolding listed

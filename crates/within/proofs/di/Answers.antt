@@ -5,35 +5,38 @@ use borrow.Author.Rules.{rules}
 use Rattle.patterns.specs.Matched.{matched}
 use Rattle.rules.proofs.RuleLaws.{opened}
 use Rattle.within.proofs.WithinRules.{di, di_none}
-use Rattle.patterns.proofs.Views.{other, taken, refused, both_matched}
-use borrow.Enum.Refused.{opened as among}
+use Rattle.patterns.proofs.Views.{no_intersection, no_union, taken, refused, went_on, stopped}
 use Rattle.within.proofs.di.Goals as goal
 
 pub returns-in_default : goal.returns-in_default
 unfolding opened
-returns-in_default c = refused _ (rw (other _ _ c.state_set.ensures 7 (among c.in_default.in_default-own.keys2)))
+returns-in_default c = refused _ (rw (no_intersection _ _ c.state_set.ensures c.in_default.not-Intersection))
 
 pub returns-in_default-state_set : goal.returns-in_default-state_set
 unfolding opened
 returns-in_default-state_set c =
-    let e = c in
     refused _
     (rw (
-      taken _ _ e.state_set.ensures e.in-Intersection.is,
-      other _ _ c.state_set-2.ensures 8 (among c.in_default-state_set.in_default-state_set-own.keys2),
+      taken _ _ c.state_set.ensures c.in-Intersection.is,
+      no_union _ _ c.state_set-2.ensures c.in_default-state_set.not-Union,
     ))
 
 pub returns-in_default-state_set-2 : goal.returns-in_default-state_set-2
 unfolding opened
-returns-in_default-state_set-2 c = refused _ (di_none _ _ _ (other _ _ c.state_set-3.ensures 8 (among c.in_default-state_set-2.in_default-state_set-2-own.keys2)))
+returns-in_default-state_set-2 c = refused _ (di_none _ _ _ (no_union _ _ c.state_set-3.ensures c.in_default-state_set-2.not-Union))
+
+pub returns-in_err-is_intersection : goal.returns-in_err-is_intersection
+returns-in_err-is_intersection c =
+    stopped _ _ c.in_err-is_intersection.ensures (search rules)
+    ∙ ap matched
+    (di _ _ _ _ _ _ _ _ _ (taken _ _ c.state_set.ensures c.in-Intersection.is)
+    (taken _ _ c.state_set-2.ensures c.in-Union.is)
+    (taken _ _ c.state_set-3.ensures c.in-Union-state_set.is))
 
 pub returns : goal.returns
 returns c =
-    let x = c in
-    let s = x in
-    let e = s in
-    both_matched _ _ c.both.ensures c.is_intersection.ensures c.is_intersection-2.ensures
+    went_on _ _ c.in_ok-is_intersection.ensures c.is_intersection-2.ensures
     ∙ ap matched
-    (di _ _ _ _ _ _ _ _ _ (taken _ _ e.state_set.ensures e.in-Intersection.is)
-    (taken _ _ s.state_set-2.ensures s.in-Union.is)
-    (taken _ _ x.state_set-3.ensures x.in-Union-state_set.is))
+    (di _ _ _ _ _ _ _ _ _ (taken _ _ c.state_set.ensures c.in-Intersection.is)
+    (taken _ _ c.state_set-2.ensures c.in-Union.is)
+    (taken _ _ c.state_set-3.ensures c.in-Union-state_set.is))

@@ -1,7 +1,6 @@
 -- `within::st` meets its contract: ST's tests in turn.
 -- Assumes nothing.
 use mathlib.Core.Path.{◌∙◌, ap}
-use borrow.Author.Rules.{rules}
 use Rattle.patterns.specs.Matched.{matched}
 use Rattle.rules.proofs.RuleLaws.{chain, opened}
 use Rattle.within.proofs.st.Goals as goal

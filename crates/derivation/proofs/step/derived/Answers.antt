@@ -1,20 +1,15 @@
 -- `step::derived` meets its contract: what the step says follows by its rule from what its premises say.
 -- Assumes nothing.
 use mathlib.Core.Path.{refl}
-use borrow.Author.Rules.{rules}
 use Rattle.derivation.proofs.Derived.{derived_by}
 use Rattle.derivation.proofs.step.derived.Goals as goal
 
 pub returns-then-rule-le-CG : goal.returns-then-rule-le-CG
 returns-then-rule-le-CG c =
-    let p = c in
-    let s = p in
-    derived_by _ s.args.rule s.args.s s.requires.le_rule p.premises-count.ensures
-    p.premise-p.ensures c.premise-q.ensures c.premise-o.ensures c.by_rule.ensures
+    derived_by _ c.args.rule c.args.s c.requires c.premises-count.ensures
+    c.premise-p.ensures c.premise-q.ensures c.premise-o.ensures (rw c.args.file.now.same c.by_rule.ensures)
 
-pub returns : goal.returns
-returns c =
-    let p = c in
-    let s = p in
-    derived_by _ s.args.rule s.args.s s.requires.le_rule p.premises-count.ensures
-    p.premise-p.ensures c.premise-q.ensures (λ _. refl) (c.by_rule-2.ensures _)
+pub returns-else-rule-le-DI : goal.returns-else-rule-le-DI
+returns-else-rule-le-DI c =
+    derived_by _ c.args.rule c.args.s c.requires c.premises-count.ensures
+    c.premise-p.ensures c.premise-q.ensures (λ _. refl) (rw c.args.file.now.same (c.by_rule-else-rule-le-DI.ensures _))
