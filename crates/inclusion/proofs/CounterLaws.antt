@@ -15,6 +15,7 @@ use Rattle.certificate.specs.Known.{Known, decoded}
 use Rattle.certificate.proofs.TableLaws.{NoneOf}
 use Rattle.meaning.specs.File.{File}
 use Rattle.counterexample.specs.Counter.{Asked, Counter, ActionsOf, Refuted}
+use Rattle.leaves.specs.declared.Leaf.{Leaf}
 use Rattle.kinds.specs.declared.Gathered.{Gathered}
 use Rattle.parts.specs.Written.{actions_of_rule}
 use Rattle.shapes.specs.Gathered.{left_of, right_of, Acts, Gathers}
@@ -53,11 +54,11 @@ with_bracket (suc (suc zero)) q = (omega arith, omega arith)
 with_bracket (suc (suc (suc zero))) q = (omega arith, omega arith)
 with_bracket (suc (suc (suc (suc n)))) q = absurd (subst T (sym q) tt)
 
-pub action_set : (f : File) (index : List ℕ) (rule a b : ℕ) (left right : List ℕ) (g : Gathered) → Gathers f index rule a b left right g
+pub action_set : (f : File) (index : List ℕ) (rule a b : ℕ) (left right : List Leaf) (g : Gathered) → Gathers f index rule a b left right g
     → has_bracket rule ≡ true → g.actions ≡ actions_of_rule f rule a
 action_set f index rule a b left right g h q = let w = with_bracket rule q in h.action_set w.0 w.1
 
-module _ (bytes : List ℕ) (index : List ℕ) (k : Known bytes index) (rule a b : ℕ) (left right : List ℕ) (g : Gathered)
+module _ (bytes : List ℕ) (index : List ℕ) (k : Known bytes index) (rule a b : ℕ) (left right : List Leaf) (g : Gathered)
     (h : Gathers (decoded bytes) index rule a b left right g) where
   abbrev f : File
   f = decoded bytes

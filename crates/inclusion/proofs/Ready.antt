@@ -5,7 +5,7 @@ use Prim.Native.Nat.{ℕ, ◌≤◌, ◌<◌, min}
 use native.Mathlib.Omega.{arith}
 use mathlib.Core.Bool.{Bool, true, false, ◌||◌}
 use mathlib.Core.List.{List, [], ◌∷◌, map}
-use lib.ListN.{length, take, length-take, length-map}
+use lib.ListN.{length, length-take, length-map}
 use lib.Dec.{T}
 use Rattle.task.specs.declared.Ends.{Ends}
 use Rattle.task.specs.Task.{action_at}
@@ -23,7 +23,7 @@ use Rattle.meaning.proofs.Order as order
 use Rattle.counterexample.specs.Counter.{Asked}
 use Rattle.counterexample.proofs.LeafLaws.{basic_of_lem}
 use Rattle.leaves.specs.declared.Leaf.{Leaf}
-use Rattle.leaves.specs.Leaves.{kind_of, word_leaf, leaf_in, leaves_in}
+use Rattle.leaves.specs.Leaves.{kind_of, leaf_in, leaves_in}
 use Rattle.leaves.specs.Holds.{Orderly, Ruled}
 use Rattle.leaves.specs.Lists.{Each}
 use Rattle.leaves.proofs.ListLaws.{each_at}
@@ -105,17 +105,17 @@ module _ (bytes : List ℕ) (index : List ℕ) (k : Known bytes index) where
     clausal n two four five (TwoCnf s) l m = subst (λ (t : Bool). Ruled bytes t s) (sym (five m)) l
 
   -- an array that has so many leaves has room for them
-  leaves_room : (leaves : List ℕ) (m : ℕ) (xs : List Asked) → leaves_in leaves m ≡ map (leaf_of index f) xs → m ≡ length xs
+  leaves_room : (leaves : List Leaf) (m : ℕ) (xs : List Asked) → leaves_in leaves m ≡ map (leaf_of index f) xs → m ≡ length xs
       → m ≤ length leaves
   unfolding leaves_in
   leaves_room leaves m xs e n =
       let l : min m (length leaves) ≡ length xs =
-      sym (length-take m leaves) ∙ sym (length-map (take m leaves) word_leaf) ∙ ap length e ∙ length-map xs (leaf_of index f) in
+      sym (length-take m leaves) ∙ ap length e ∙ length-map xs (leaf_of index f) in
       omega arith
 
   -- ---- a statement
 
-  module _ (rule a b : ℕ) (left right : List ℕ) (g : Gathered) (h : Gathers f index rule a b left right g) where
+  module _ (rule a b : ℕ) (left right : List Leaf) (g : Gathered) (h : Gathers f index rule a b left right g) where
     abbrev xs : List Asked
     xs = left_of f rule a b
 
@@ -158,12 +158,13 @@ module _ (bytes : List ℕ) (index : List ℕ) (k : Known bytes index) where
           in_right Unlisted (each_leaf Unlisted ys h.basic_right (λ y l.
           unlisted (kinds_of f ys) (λ m. none_listed (or_right (member 3 (kinds_of f xs)) (member 3 (kinds_of f ys)) m)) y.set))
 
-    pub searchable : Searchable bytes index ends left right g
+    pub searchable : 2 ≤ length right → Searchable bytes index ends left right g
     unfolding ends_of
-    searchable = record {
+    searchable pair = record {
       facts = (read_file_lem bytes k.read).task.few_facts;
       room_left = fewer_left;
       room_right = leaves_room right g.right_count ys h.right_leaves_are h.right_count_is;
+      pair = pair;
       orderly_left = in_left (λ y. Orderly bytes index y.set) (orderly xs h.basic_left);
       orderly_right = in_right (λ y. Orderly bytes index y.set) (orderly ys h.basic_right);
       anchored = λ q. ((h.anchored q).0, anchor q);

@@ -18,8 +18,8 @@ use Rattle.certificate.specs.Known.{decoded, IsRead}
 use Rattle.meaning.specs.Writing.{FitsStateSet}
 use Rattle.meaning.proofs.Order.{Ordered, state_set_fits}
 use Rattle.certificate.proofs.KnownLaws.{read_file_lem}
-use Rattle.inclusion.specs.declared.Verdict.{Verdict}
-use Rattle.inclusion.specs.declared.Verdict.TheVariants.{Holds, Untrue, NotPermitted}
+use Rattle.std.specs.Prelude.{Ok, Err}
+use Rattle.inclusion.specs.declared.Failure.TheVariants.{Untrue, NotPermitted}
 use Rattle.meaning.specs.Sets.{states_within, actions_within}
 use Rattle.meaning.specs.Shapes.{kind_at, leaves, shape₁, shape_with, shape₂, shape₃, shape₄}
 use Rattle.counterexample.specs.Counter.{Counter}
@@ -27,7 +27,7 @@ use Rattle.parts.specs.Written.{shape_of, bracket_leaf, actions_of_rule}
 use Rattle.shapes.specs.Gathered.{left_of, right_of, Acts}
 use Rattle.meaning.specs.Statements.{statements}
 use Rattle.inclusion.specs.Search.{has_bracket}
-use Rattle.inclusion.specs.Verdict.{verdict_but, verdict_by, verdict_or, verdict_of}
+use Rattle.inclusion.specs.Verdict.{Verdict, verdict_but, verdict_by, verdict_or, verdict_of}
 use Rattle.counterexample.proofs.Lists.{kept_passes}
 use Rattle.inclusion.proofs.RuleTruth.{rule_truth, the_bracket}
 
@@ -35,9 +35,9 @@ use Rattle.inclusion.proofs.RuleTruth.{rule_truth, the_bracket}
 
 -- by its shape and its truth
 picked : Bool → Bool → Verdict
-picked true true = Holds
-picked true false = Untrue
-picked false h = NotPermitted
+picked true true = Ok tt
+picked true false = Err Untrue
+picked false h = Err NotPermitted
 
 by_truth : (sh h u : Bool) → T sh → T h ↔ (T u → ⊥) → verdict_but u ≡ picked sh h
 unfolding verdict_but picked
@@ -47,7 +47,7 @@ by_truth true false true t w = refl
 by_truth true false false t w = absurd (w.1 (λ z. z))
 by_truth false h u t w = absurd t
 
-picks : (sh h : Bool) → elim sh [ true ↦ elim h [ true ↦ Holds | false ↦ Untrue ] | false ↦ NotPermitted ] ≡ picked sh h
+picks : (sh h : Bool) → elim sh [ true ↦ elim h [ true ↦ Ok tt | false ↦ Err Untrue ] | false ↦ Err NotPermitted ] ≡ picked sh h
 unfolding picked
 picks true true = refl
 picks true false = refl
@@ -66,11 +66,11 @@ pub verdict_actions : (f : File) (a b : ℕ) (r : Bool) → r ≡ actions_within
 unfolding verdict_of verdict_or verdict_by statements verdict_but
 verdict_actions f a b r e = by (actions_within f a b) e
   where
-    by : (h : Bool) → r ≡ h → verdict_but (not r) ≡ elim h [ true ↦ Holds | false ↦ Untrue ]
+    by : (h : Bool) → r ≡ h → verdict_but (not r) ≡ elim h [ true ↦ Ok tt | false ↦ Err Untrue ]
     by true q = rw q refl
     by false q = rw q refl
 
-pub verdict_refused : (f : File) (rule a b : ℕ) → 1 ≤ rule → rule ≤ 4 → shape_of f rule a b ≡ false → NotPermitted ≡ verdict_of f rule a b
+pub verdict_refused : (f : File) (rule a b : ℕ) → 1 ≤ rule → rule ≤ 4 → shape_of f rule a b ≡ false → Err NotPermitted ≡ verdict_of f rule a b
 unfolding picked
 verdict_refused f rule a b l h e = sym (verdict_picked f rule a b l h ∙ ap (λ (x : Bool). picked x (states_within f a b)) e)
 

@@ -2,149 +2,152 @@
 #![tactic(auto)]
 
 ghost use Rattle.std.specs.Prelude.{◌≡◌, ◌↔◌, true, ◌≤◌, ◌<◌, ◌^◌, T, length};
-ghost use Rattle.task.specs.Inner.{ends_of};
-ghost use Rattle.certificate.specs.Known.{Known, decoded};
-ghost use Rattle.leaves.specs.Leaves.{leaves_in};
-ghost use Rattle.leaves.specs.Lists.{Countered};
-ghost use Rattle.inclusion.specs.Search.{Searchable, SomeCountered, has_bracket, ByRule};
-ghost use Rattle.inclusion.specs.Verdict.{verdict_of, verdict_but};
+ghost use Rattle.certificate.specs.Known.{decoded};
+ghost use Rattle.inclusion.specs.Search.{Searchable, CounteredBy, SomeCountered, has_bracket, ByRule};
+ghost use Rattle.inclusion.specs.Verdict.{verdict_of, verdict_but, fault_of};
 
 use actions::marks::is_marked;
 use actions::{action_marks, actions_within};
-use certificate::Index;
+use certificate::{BasicEntry, Source, StepFault, WithEnds};
 use clauses::refuted;
 use kinds::Gathered;
+use leaves::Leaf;
 use listed::shown;
 use lookup::{action, actions};
 use shapes::shape::gather;
-use task::{Action, Ends, few_unknown};
+use task::{Action, few_unknown};
 
-// What is found of a basic statement. Document 01 replies 11 to what is untrue and 10 to a shape that is not permitted.
-#[derive(Clone, Copy)]
-pub enum Verdict {
-    Holds,
+// Why a basic statement fails. Document 01 replies 11 to what is untrue and 10 to a shape that is not permitted.
+#[derive(Clone, Copy, PartialEq, Eq, Debug)]
+pub enum Failure {
     Untrue,
     NotPermitted,
 }
 
-// Whether an action makes a statement with these leaves untrue.
-fn one_refutes(
-    file: &[u8],
-    index: &Index,
-    ends: Ends,
-    left: &[u64; 24],
-    right: &[u64; 16],
-    g: Gathered,
-    a: Action,
-) -> bool
-    requires searchable { Searchable file.now index.now ends left.now right.now g }
-    requires add_bound { a.add < 2 ^ ends.facts }
-    ensures { T result ↔ Countered file.now ends a (leaves_in left.now g.left_count) (leaves_in right.now g.right_count) }
-{
-    let m = g.left_count as usize;
-    if g.listed {
-        let r = g.right_count as usize;
-        let anchor = g.anchor as usize;
-        return shown(file, index, ends, left, m, right, r, anchor, a);
+impl From<Failure> for StepFault {
+    ghost from_gives = { λ failure fault. fault ≡ fault_of failure };
+
+    #[tactic(auto, unfolding(crate::specs::Verdict::fault_of))]
+    fn from(failure: Failure) -> StepFault {
+        match failure {
+            Failure::Untrue => StepFault::Untrue,
+            Failure::NotPermitted => StepFault::NotPermitted,
+        }
     }
-    refuted(file, ends, left, m, right, g.two, a)
+}
+
+// A permitted statement: the arrays that its leaves stand in, and what is told of them. That they may be searched is a clause of three
+// functions: a statement that carried it would hold the file too, and each function would say that it is the same one.
+#[derive(Clone, Copy)]
+struct Statement<'a> {
+    left: &'a [Leaf],
+    right: &'a [Leaf],
+    told: Gathered,
+}
+
+// Whether an action makes a statement untrue. The search over clauses looks at two right leaves; those that stand behind the last one
+// are of the empty set, which holds nothing.
+fn one_refutes(file: &Source, x: &Statement, a: Action) -> bool
+    requires searchable { Searchable file.now.bytes.now file.now.index.now file.now.ends x.now.left.now x.now.right.now x.now.told }
+    requires add_bound { a.add < 2 ^ file.now.ends.facts }
+    ensures { T result ↔ CounteredBy file.now.bytes.now file.now.ends x.now.left.now x.now.right.now x.now.told a }
+{
+    let told = x.told;
+    let left = x.left;
+    let right = x.right;
+    let moved = &left[..told.left_count];
+    if told.listed {
+        return shown(file, moved, &right[..told.right_count], told.anchor, a);
+    }
+    refuted(file.bytes, file.ends, moved, &right[..2], told.two, a)
 }
 
 // Whether some action of the statement's action set does.
-fn some_refutes(
-    file: &[u8],
-    index: &Index,
-    ends: Ends,
-    left: &[u64; 24],
-    right: &[u64; 16],
-    g: Gathered,
-) -> bool
-    requires known { Known file.now index.now × (ends ≡ ends_of (decoded file.now).task) }
-    requires searchable { Searchable file.now index.now ends left.now right.now g }
-    requires actions_in_bounds { g.actions < length (decoded file.now).action_sets }
-    ensures { T result ↔ SomeCountered file.now ends left.now right.now g }
+fn some_refutes(file: &WithEnds, x: &Statement) -> bool
+    requires searchable { Searchable file.now.entries.bytes.now file.now.entries.index.now file.now.ends x.now.left.now x.now.right.now x.now.told }
+    requires actions_in_bounds { x.now.told.actions < length (decoded file.now.entries.bytes.now).action_sets }
+    ensures { T result ↔ SomeCountered file.now.entries.bytes.now file.now.ends x.now.left.now x.now.right.now x.now.told }
 {
-    let marks = action_marks(file, index, g.actions);
-    let all = actions(file);
-    let count = all.count;
-    let mut i = 0u16;
-    while i < count {
+    let source = Source {
+        bytes: file.entries.bytes,
+        index: file.entries.index,
+        ends: file.ends,
+    };
+    let marks = action_marks(&file.entries, x.told.actions);
+    let all = actions(file.entries.bytes);
+    for i in 0..all.count {
         if is_marked(marks, i) {
-            let a = action(file, all, i);
-            if one_refutes(file, index, ends, left, right, g, a) {
+            let a = action(file.entries.bytes, all, i);
+            if one_refutes(&source, x, a) {
                 return true;
             }
         }
-        i += 1;
     }
     false
 }
 
 // Whether a rule's statement has a bracket, and so an action set.
+#[tactic(auto, unfolding(crate::specs::Search::has_bracket))]
 fn has_bracket(rule: u8) -> bool
     ensures { result ≡ has_bracket rule }
 {
-    match rule {
-        2 => true,
-        3 => true,
-        _ => false,
-    }
+    matches!(rule, 2 | 3)
 }
 
-// Whether the statement of a rule with these leaves is untrue: by an action of its set where it has a bracket, else by none.
-fn is_countered(
-    file: &[u8],
-    index: &Index,
-    ends: Ends,
-    rule: u8,
-    left: &[u64; 24],
-    right: &[u64; 16],
-    g: Gathered,
-) -> bool
-    requires known { Known file.now index.now × (ends ≡ ends_of (decoded file.now).task) }
-    requires searchable { Searchable file.now index.now ends left.now right.now g }
-    requires actions_in_bounds { has_bracket rule ≡ true → g.actions < length (decoded file.now).action_sets }
-    ensures { T result ↔ ByRule file.now ends left.now right.now g rule }
+// Whether the statement of a rule is untrue: by an action of its set where it has a bracket, else by none.
+fn is_countered(file: &WithEnds, rule: u8, x: &Statement) -> bool
+    requires searchable { Searchable file.now.entries.bytes.now file.now.entries.index.now file.now.ends x.now.left.now x.now.right.now x.now.told }
+    requires actions_in_bounds { has_bracket rule ≡ true → x.now.told.actions < length (decoded file.now.entries.bytes.now).action_sets }
+    ensures { T result ↔ ByRule file.now.entries.bytes.now file.now.ends x.now.left.now x.now.right.now x.now.told rule }
 {
     if has_bracket(rule) {
-        return some_refutes(file, index, ends, left, right, g);
+        return some_refutes(file, x);
     }
+    let source = Source {
+        bytes: file.entries.bytes,
+        index: file.entries.index,
+        ends: file.ends,
+    };
     let nothing = Action {
         pre: 0,
         add: 0,
         del: 0,
         off: 0,
     };
-    one_refutes(file, index, ends, left, right, g, nothing)
+    one_refutes(&source, x, nothing)
 }
 
 // The verdict on a permitted statement.
-fn verdict_on(untrue: bool) -> Verdict
+#[tactic(auto, unfolding(crate::specs::Verdict::verdict_but))]
+fn verdict_on(untrue: bool) -> Result<(), Failure>
     ensures { result ≡ verdict_but untrue }
 {
-    if untrue {
-        Verdict::Untrue
-    } else {
-        Verdict::Holds
-    }
+    if untrue { Err(Failure::Untrue) } else { Ok(()) }
 }
 
 // The verdict on rule 1 to 5 at entries e and d.
-pub fn decide(file: &[u8], index: &Index, ends: Ends, rule: u8, e: u16, d: u16) -> Verdict
-    requires known { Known file.now index.now × (ends ≡ ends_of (decoded file.now).task) }
+pub fn decide(file: &WithEnds, rule: u8, e: u16, d: u16) -> Result<(), Failure>
     requires le_rule { (1 ≤ rule) × (rule ≤ 5) }
-    requires e_in_bounds { rule ≡ 5 → (e < length (decoded file.now).action_sets) × (d < length (decoded file.now).action_sets) }
-    ensures { result ≡ verdict_of (decoded file.now) rule e d }
+    requires e_in_bounds { rule ≡ 5 → (e < length (decoded file.now.entries.bytes.now).action_sets) × (d < length (decoded file.now.entries.bytes.now).action_sets) }
+    ensures { result ≡ verdict_of (decoded file.now.entries.bytes.now) rule e d }
 {
     if rule == 5 {
-        return verdict_on(!actions_within(file, index, e, d));
+        return verdict_on(!actions_within(&file.entries, e, d));
     }
-    let mut left = [0u64; 24];
-    let mut right = [0u64; 16];
-    let few = few_unknown(ends);
-    let g = gather(file, index, few, rule, e, d, &mut left, &mut right);
-    if g.permitted {
-        return verdict_on(is_countered(file, index, ends, rule, &left, &right, g));
-    }
-    Verdict::NotPermitted
+    let no_leaf = Leaf {
+        set: BasicEntry::Empty,
+        after: false,
+    };
+    let mut left = [no_leaf; 24];
+    let mut right = [no_leaf; 16];
+    let few = few_unknown(file.ends);
+    let Some(told) = gather(&file.entries, few, rule, e, d, &mut left, &mut right) else {
+        return Err(Failure::NotPermitted);
+    };
+    let x = Statement {
+        left: &left,
+        right: &right,
+        told,
+    };
+    verdict_on(is_countered(file, rule, &x))
 }

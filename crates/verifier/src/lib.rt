@@ -7,37 +7,37 @@ ghost use Rattle.meaning.specs.Result.{found};
 ghost use Rattle.meaning.specs.File.{File};
 ghost use Rattle.meaning.specs.Layout.{read_file};
 ghost use Rattle.meaning.specs.declared.Reply.TheVariants.{Accepted};
-ghost use Rattle.meaning.specs.Reply.{reply_of};
+ghost use Rattle.meaning.specs.Reply.{reply_of, reply_to, check_from};
 ghost use Rattle.meaning.specs.Judged.{JudgedBy};
-ghost use Rattle.meaning.specs.Numbering.{reply_numbered};
+ghost use Rattle.meaning.specs.Numbering.{reply_numbered, rewritten};
 ghost use Rattle.meaning.specs.Rounds.{lawful_count, round_of};
 ghost use Rattle.meaning.specs.Small.{reply_small};
-ghost use Rattle.certificate.specs.Known.{Placed, Known};
+ghost use Rattle.certificate.specs.Known.{Placed, Known, decoded};
 ghost use Rattle.numbering.specs.Table.{Stands};
 ghost use Rattle.verifier.specs.Check.{reply_by};
 ghost use Rattle.verifier.specs.Round.{or_else};
 
-use certificate::index::put_entries;
-use certificate::{Index, Outline, Places};
-use layout::{full_limits, read_layout, small_limits};
+use certificate::index::with_entries;
+use certificate::{Laid, Whole};
+use layout::{FULL_LIMITS, SMALL_LIMITS, read_layout};
 use meaning::{Limits, Reply, Round};
-use numbering::{ListReply, RuleTable, numbering_of, own_numbers};
+use numbering::{RuleTable, numbering_of, own_numbers};
 use steps::{check_from, check_steps};
+
+// The reply to a file that is read, by its steps.
+fn check_whole(file: &Whole, rules: &RuleTable) -> Reply
+    ensures { (g : ℕ → ℕ) → Stands rules.now g → result ≡ reply_to (check_from (rewritten g (decoded file.now.laid.bytes.now)) 0) }
+{
+    check_from(file, rules, 0)
+}
 
 // The reply with a check's limits to a file whose rule bytes stand for the rules of a table.
 fn check_by(file: &[u8], limits: Limits, rules: &RuleTable) -> Reply
     ensures { (g : ℕ → ℕ) → Stands rules.now g → result ≡ reply_by limits g file.now }
 {
     match read_layout(file, limits) {
-        Outline::Refused { number, place } => {
-            let place = place as u64;
-            Reply::Refused { number, place }
-        }
-        Outline::Lawful(at) => {
-            let mut index = [0u16; 8961];
-            put_entries(file, at, &mut index);
-            check_from(file, &index, rules, at, 0)
-        }
+        Ok(at) => with_entries(&Laid { bytes: file, at }, |whole| check_whole(whole, rules)),
+        Err(fault) => Reply::from(fault),
     }
 }
 
@@ -49,10 +49,10 @@ pub fn check(file: &[u8]) -> Reply
     ensures judged { JudgedBy file.now result }
 {
     let rules = own_numbers();
-    check_by(file, full_limits(), &rules)
+    check_by(file, FULL_LIMITS, &rules)
 }
 
-// The same with smaller limits: 19 where the file breaks one of them, and else the reply of `check`.
+// The same with smaller limits: 19 where the file breaks one of them, and else the reply of `check`. By name, as C calls it.
 pub fn check_small(file: &[u8]) -> Reply
     ensures reply { result ≡ reply_small file.now }
     ensures untouched { file.exit.now ≡ file.entry.now }
@@ -60,7 +60,7 @@ pub fn check_small(file: &[u8]) -> Reply
     ensures judged { JudgedBy file.now result }
 {
     let rules = own_numbers();
-    check_by(file, small_limits(), &rules)
+    check_by(file, SMALL_LIMITS, &rules)
 }
 
 // The same for a file whose steps have the rule numbers of a caller's list, the k-th of which stands for rule k. The list's own faults
@@ -72,18 +72,16 @@ pub fn check_numbered(file: &[u8], numbers: &[u8]) -> Reply
     ensures safe { result ≡ Accepted → (f : File) × (read_file file.now ≡ found f) × Safe f.task }
     ensures judged { JudgedBy file.now result }
 {
-    let list = numbering_of(numbers);
-    let reply = list.reply;
-    match reply {
-        ListReply::Refused(place) => {
-            let number = 18;
-            Reply::Refused { number, place }
-        }
-        ListReply::Lawful => check_by(file, full_limits(), &list.rules),
+    match numbering_of(numbers) {
+        Ok(rules) => check_by(file, FULL_LIMITS, &rules),
+        Err(fault) => Reply::Refused {
+            number: 18,
+            place: fault.place,
+        },
     }
 }
 
-// What a round says whose steps got a reply: its refusal, or else what is said where they pass.
+// What a round says whose steps got a reply: its refusal, or else what is said where they pass, which no `From` could know.
 fn round_by(reply: Reply, passed: Round) -> Round
     ensures { result ≡ or_else reply passed }
 {
@@ -101,24 +99,22 @@ fn is_lawful(steps: u64, from: u64, count: u64) -> bool
 }
 
 // A round of a file that is read.
-fn round_of(file: &[u8], at: Places, index: &Index, from: u64, count: u64) -> Round
-    requires placed { Placed file.now at }
-    requires known { Known file.now index.now }
-    ensures { result ≡ round_of file.now from count }
+fn round_of(file: &Whole, from: u64, count: u64) -> Round
+    ensures { result ≡ round_of file.now.laid.bytes.now from count }
 {
-    let steps = at.steps as u64;
+    let steps = file.laid.at.steps as u64;
     if !is_lawful(steps, from, count) {
+        // A number, since the definition `check_round` computes with it.
         let number = 17;
-        let place = 0;
-        return Round::Refused { number, place };
+        return Round::Refused { number, place: 0 };
     }
     let rules = own_numbers();
     let first = from as u16;
     if count < steps - from {
-        let reply = check_steps(file, index, &rules, at, first, count as u16);
+        let reply = check_steps(file, &rules, first, count as u16);
         round_by(reply, Round::GoOn(from + count))
     } else {
-        let reply = check_from(file, index, &rules, at, first);
+        let reply = check_from(file, &rules, first);
         round_by(reply, Round::Ended)
     }
 }
@@ -129,15 +125,11 @@ pub fn check_round(file: &[u8], from: u64, count: u64) -> Round
     ensures round { result ≡ round_of file.now from count }
     ensures untouched { file.exit.now ≡ file.entry.now }
 {
-    match read_layout(file, full_limits()) {
-        Outline::Refused { number, place } => {
-            let place = place as u64;
-            Round::Refused { number, place }
-        }
-        Outline::Lawful(at) => {
-            let mut index = [0u16; 8961];
-            put_entries(file, at, &mut index);
-            round_of(file, at, &index, from, count)
-        }
+    match read_layout(file, FULL_LIMITS) {
+        Ok(at) => with_entries(
+            &Laid { bytes: file, at },
+            |whole| round_of(whole, from, count),
+        ),
+        Err(fault) => Round::from(fault),
     }
 }

@@ -1,19 +1,17 @@
 -- `inclusion::decide`: the shape first, then the search for a counterexample.
 -- Assumes nothing.
-use mathlib.Core.Path.{◌≡◌, sym, ap, ◌∙◌, subst}
+use mathlib.Core.Path.{◌≡◌, refl, sym, ap, ◌∙◌, subst}
 use mathlib.Core.Logic.Iff
-use mathlib.Core.Bool.{true}
-use Prim.Native.Nat.{ℕ, ◌<◌}
+use Prim.Native.Nat.{ℕ, zero, suc, ◌<◌}
 use native.Mathlib.Omega.{arith}
-use lib.ListN.{length}
-use borrow.Author.Rules.{rules}
+use lib.ListN.{length, replicate}
+use Rattle.leaves.specs.Leaves.{no_leaf, leaf_in}
+use Rattle.std.specs.Option.{is_some}
 use Rattle.task.specs.Inner.{few_unknown}
 use Rattle.task.proofs.Names.{few_ends}
 use Rattle.meaning.specs.Shapes.{lists_init}
 use Rattle.certificate.specs.Known.{decoded}
 use Rattle.certificate.proofs.KnownLaws.{read_ordered, read_bounded}
-use Rattle.certificate.proofs.IndexLaws.{zeros}
-use Rattle.inclusion.specs.Search.{has_bracket}
 use Rattle.inclusion.specs.Verdict.{verdict_of}
 use Rattle.inclusion.proofs.Ready.{searchable}
 use Rattle.inclusion.proofs.CounterLaws.{by_rule_lem, action_set}
@@ -22,54 +20,42 @@ use Rattle.inclusion.proofs.decide.Goals as goal
 
 pub returns-then-rule-eq5 : goal.returns-then-rule-eq5
 returns-then-rule-eq5 c =
-    let s = c in
     c.verdict_on.ensures ∙ verdict_actions _ _ _ c.actions_within.result c.actions_within.ensures
-    ∙ ap (λ (r : ℕ). verdict_of (decoded s.args.file.now) r s.args.e s.args.d) (sym c.if-rule-eq5.true)
+    ∙ ap (λ (r : ℕ). verdict_of (decoded c.args.file.now.entries.bytes.now) r c.args.e c.args.d) (sym c.if-rule-eq5.true)
 
-pub gather-g-requires-clause-known : goal.gather-g-requires-clause-known
+pub gather-requires-clause-few : goal.gather-requires-clause-few
 unfolding lists_init
-gather-g-requires-clause-known c =
-    let s = c in
+gather-requires-clause-few c = c.few_unknown-few.ensures ∙ ap few_unknown c.args.file.now.ends_are ∙ sym (few_ends _)
+
+-- an array before leaves are put there
+none_yet : (n i : ℕ) → leaf_in (replicate n no_leaf) i ≡ no_leaf
+unfolding leaf_in
+none_yet zero i = refl
+none_yet (suc n) zero = refl
+none_yet (suc n) (suc i) = none_yet n i
+
+pub gather-requires-clause-zeros : goal.gather-requires-clause-zeros
+gather-requires-clause-zeros c = none_yet 16
+
+pub returns-in_default : goal.returns-in_default
+returns-in_default c =
     let n = c.if-rule-eq5.false in
-    let few = c.few_unknown-few.ensures ∙ ap few_unknown s.requires.known.1 ∙ sym (few_ends _) in
-    (s.requires.known.0, few)
+    verdict_refused _ _ _ _ c.requires.le_rule.0 (omega arith) (sym c.gather.ensures.shape ∙ ap is_some c.in_default.is)
 
 pub is_countered-requires-clause-searchable : goal.is_countered-requires-clause-searchable
 is_countered-requires-clause-searchable c =
-    let d = c in
-    let s = d in
-    let p = c.if-g.true in
-    let h = d.gather-g.ensures.leaves p in
-    let in_file : has_bracket s.args.rule ≡ true → d.gather-g.result.actions < length (decoded s.args.file.now).action_sets = λ q.
-    subst (λ (x : ℕ). x < length (decoded s.args.file.now).action_sets) (sym (action_set _ _ _ _ _ _ _ _ h q))
-    (actions_in_file _ s.requires.known.0.read _ _ _ q (sym d.gather-g.ensures.shape ∙ p)) in
-    rw s.requires.known.1 (searchable _ _ s.requires.known.0 _ _ _ _ _ _ h)
+    rw c.args.file.now.ends_are (searchable _ _ c.args.file.now.entries.known _ _ _ _ _ _ c.in-Some.ensures.leaves (omega (arith, c.gather.array_long2)))
 
-pub returns-then-g : goal.returns-then-g
-returns-then-g c =
-    let d = c in
-    let s = d in
-    let p = c.if-g.true in
-    let n = d.if-rule-eq5.false in
-    let h = d.gather-g.ensures.leaves p in
-    c.verdict_on-then-g.ensures
-    ∙ verdict_decided _ (read_ordered _ s.requires.known.0.read) (read_bounded _ s.requires.known.0.read) _ _ _ s.requires.le_rule.0 (omega arith) (sym d.gather-g.ensures.shape ∙ p)
-    c.is_countered.result
-    (Iff.trans c.is_countered.ensures (by_rule_lem _ _ s.requires.known.0 _ _ _ _ _ _ h _ s.requires.known.1))
+pub is_countered-requires-clause-actions_in_bounds : goal.is_countered-requires-clause-actions_in_bounds
+is_countered-requires-clause-actions_in_bounds c = λ q.
+    subst (λ (x : ℕ). x < length (decoded c.args.file.now.entries.bytes.now).action_sets) (sym (action_set _ _ _ _ _ _ _ _ c.in-Some.ensures.leaves q))
+    (actions_in_file _ c.args.file.now.entries.known.read _ _ _ q (sym c.in-Some.ensures.shape))
 
 pub returns : goal.returns
 returns c =
-    let s = c in
     let n = c.if-rule-eq5.false in
-    verdict_refused _ _ _ _ s.requires.le_rule.0 (omega arith) (sym c.gather-g.ensures.shape ∙ c.if-g.false)
-
-pub is_countered-requires-clause-actions_in_bounds : goal.is_countered-requires-clause-actions_in_bounds
-is_countered-requires-clause-actions_in_bounds c =
-    let d = c in
-    let s = d in
-    let p = c.if-g.true in
-    let h = d.gather-g.ensures.leaves p in
-    let in_file : has_bracket s.args.rule ≡ true → d.gather-g.result.actions < length (decoded s.args.file.now).action_sets = λ q.
-    subst (λ (x : ℕ). x < length (decoded s.args.file.now).action_sets) (sym (action_set _ _ _ _ _ _ _ _ h q))
-    (actions_in_file _ s.requires.known.0.read _ _ _ q (sym d.gather-g.ensures.shape ∙ p)) in
-    in_file
+    let file = c.args.file.now in
+    c.verdict_on-2.ensures
+    ∙ verdict_decided _ (read_ordered _ file.entries.known.read) (read_bounded _ file.entries.known.read) _ _ _ c.requires.le_rule.0 (omega arith) (sym c.in-Some.ensures.shape)
+    c.is_countered.result
+    (Iff.trans c.is_countered.ensures (by_rule_lem _ _ file.entries.known _ _ _ _ _ _ c.in-Some.ensures.leaves _ c.args.file.now.ends_are))

@@ -1,7 +1,6 @@
 -- `round_by` meets its contract: a case for each reply.
 -- Assumes nothing.
 use mathlib.Core.Path.{sym, ap}
-use borrow.Author.Rules.{rules}
 use Rattle.meaning.specs.declared.Reply.{Reply}
 use Rattle.verifier.specs.Round.{or_else}
 use Rattle.verifier.proofs.round_by.Goals as goal
