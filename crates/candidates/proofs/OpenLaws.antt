@@ -69,7 +69,7 @@ module _ (bytes : List ℕ) (leaves : List Leaf) (k : Setting) (x : BasicEntry) 
 -- ---- what the search over words finds of a set whose clauses stand in the file
 
 pub opened_words : (bytes : List ℕ) (x : BasicEntry) (i : ℕ) (before : Bool) (changed : ℕ) {s : Span} → before ≡ true → words_of x ≡ Some s
-    → (r : Option ℕ) → FirstHit bytes s (record { two = true; off = changed; on = changed }) i r → Opens bytes x i before changed r
+    → (r : Option ℕ) → FirstHit bytes s.at s.count (record { two = true; off = changed; on = changed }) i r → Opens bytes x i before changed r
 opened_words bytes x i before changed t e None h =
     λ ends j l m. (t, rw (clause_there bytes ends x j e) (h j l (rw (count_there x e) at m)))
 opened_words bytes x i before changed t e (Some r) h = (

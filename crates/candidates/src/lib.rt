@@ -32,7 +32,7 @@ pub fn next_open(file: &[u8], set: BasicEntry, i: u32, before: bool, changed: u6
                 off: changed,
                 on: changed,
             };
-            return next_hit(file, s, i, wanted);
+            return next_hit(file, s.at, s.count as u32, i, wanted);
         }
     }
     if i < clause_count(set) { Some(i) } else { None }

@@ -4,6 +4,7 @@
 
 ghost use Rattle.std.specs.Prelude.{◌≡◌, true, false, ◌+◌, ◌<◌, ◌≤◌, ◌^◌, length};
 ghost use Rattle.certificate.specs.declared.BasicEntry.TheVariants.{Horn};
+ghost use Rattle.leaves.specs.Leaves.{leaves_in};
 ghost use Rattle.leaves.specs.Lists.{Each, Countered};
 ghost use Rattle.propagation.specs.Clauses.{LeafOf, LeftOf, Unlisted, Clausal};
 ghost use Rattle.propagation.specs.Propagation.{Tells, Settled, Opposed, Assumed, Fixed, Ready, Model, Worth, Sought};
@@ -119,13 +120,13 @@ fn seek(q: &Search, right: &[Leaf], j: usize, x: Assignment) -> bool
     false
 }
 
-// Whether a state of the task's facts in which the action applies is held by each left leaf and by neither of the two right
-// leaves. The left leaves are Horn, or two-literal where `two` says so.
+// Whether a state of the task's facts in which the action applies is held by each left leaf and by neither of the first two
+// right leaves. The left leaves are Horn, or two-literal where `two` says so.
 pub fn refuted(file: &[u8], ends: Ends, left: &[Leaf], right: &[Leaf], two: bool, a: Action) -> bool
     requires facts_bound { (ends.facts ≤ 64) × (a.add < 2 ^ ends.facts) }
     requires clausal { Each (Clausal file.now two) left.now }
-    requires pair { (length right.now ≡ 2) × Each Unlisted right.now }
-    ensures { Tells result (Countered file.now ends a left.now right.now) }
+    requires pair { (2 ≤ length right.now) × Each Unlisted (leaves_in right.now 2) }
+    ensures { Tells result (Countered file.now ends a left.now (leaves_in right.now 2)) }
 {
     let q = Search {
         file,
@@ -147,7 +148,7 @@ pub fn refuted(file: &[u8], ends: Ends, left: &[Leaf], right: &[Leaf], two: bool
     let Some(y) = solve(&q, None, x) else {
         return false;
     };
-    if seek(&q, right, 0, y) {
+    if seek(&q, &right[..2], 0, y) {
         return worth(&q, y);
     }
     false

@@ -59,7 +59,7 @@ fn one_refutes(file: &Source, x: &Statement, a: Action) -> bool
     if told.listed {
         return shown(file, moved, &right[..told.right_count], told.anchor, a);
     }
-    refuted(file.bytes, file.ends, moved, &right[..2], told.two, a)
+    refuted(file.bytes, file.ends, moved, right, told.two, a)
 }
 
 // Whether some action of the statement's action set does.

@@ -246,7 +246,7 @@ fn pass_touched(
 {
     let mut x = start;
     let mut i = 0u32;
-    while let Some(j) = next_hit(file, s, i, since(two, base, x)) {
+    while let Some(j) = next_hit(file, s.at, s.count as u32, i, since(two, base, x)) {
         x = unit(x, pulled(by, words_in(file, s.at, j)))?;
         i = j + 1;
     }

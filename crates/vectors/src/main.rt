@@ -10,7 +10,7 @@ use printing::{STDOUT, print};
 use question::ask;
 use verifier::{check, check_numbered, check_round, check_small};
 
-// Replies to a case.
+// Replies to a case, whose kind is the record's byte.
 fn reply(kind: u8, entry: u64, state: u64, numbers: &[u8], file: &[u8]) {
     match kind {
         0 => print(STDOUT, check(file)),

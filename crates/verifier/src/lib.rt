@@ -52,7 +52,8 @@ pub fn check(file: &[u8]) -> Reply
     check_by(file, FULL_LIMITS, &rules)
 }
 
-// The same with smaller limits: 19 where the file breaks one of them, and else the reply of `check`. By name, as C calls it.
+// The same with smaller limits: 19 where the file breaks one of them, and else the reply of `check`. Its contract is promised to
+// callers outside, as that of `check` is.
 pub fn check_small(file: &[u8]) -> Reply
     ensures reply { result ≡ reply_small file.now }
     ensures untouched { file.exit.now ≡ file.entry.now }

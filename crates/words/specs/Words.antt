@@ -4,7 +4,6 @@ use Rattle.std.specs.Prelude.{◌≡◌, true, List, ℕ, ◌+◌, ◌*◌, ◌�
 use Rattle.std.specs.Int.Bits.{bit_and}
 use Rattle.meaning.specs.declared.Clause.{Clause}
 use Rattle.file_numbers.specs.Numbers.{clause_at}
-use Rattle.certificate.specs.declared.Span.{Span}
 use Rattle.turned.specs.Turned.{turned8}
 use Rattle.words.specs.declared.Masks.{Masks}
 
@@ -25,14 +24,14 @@ Misses m c = (m.two ≡ true → bit_and c.positive m.off ≡ 0) × (bit_and c.n
 abbrev pub MissedAt : List ℕ → ℕ → Masks → ℕ → ℕ → Type 0
 MissedAt bytes at m i k = (j : ℕ) → i ≤ j → j < k → Misses m (words_at bytes at j)
 
--- r is the first clause of a span from i on that does not miss them
-pub record HitAt (bytes : List ℕ) (s : Span) (m : Masks) (i r : ℕ) : Type 0 where
+-- of so many clauses from place p, r is the first from i on that does not miss them
+pub record HitAt (bytes : List ℕ) (p count : ℕ) (m : Masks) (i r : ℕ) : Type 0 where
   pub from : i ≤ r
-  pub within : r < s.count
-  pub past : MissedAt bytes s.at m i r
-  pub there : Misses m (words_at bytes s.at r) → ⊥
+  pub within : r < count
+  pub past : MissedAt bytes p m i r
+  pub there : Misses m (words_at bytes p r) → ⊥
 
 -- so it is where there is one; else each clause from i on misses them
-abbrev pub FirstHit : List ℕ → Span → Masks → ℕ → Option ℕ → Type 0
-FirstHit bytes s m i None = MissedAt bytes s.at m i s.count
-FirstHit bytes s m i (Some r) = HitAt bytes s m i r
+abbrev pub FirstHit : List ℕ → ℕ → ℕ → Masks → ℕ → Option ℕ → Type 0
+FirstHit bytes p count m i None = MissedAt bytes p m i count
+FirstHit bytes p count m i (Some r) = HitAt bytes p count m i r

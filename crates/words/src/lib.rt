@@ -4,7 +4,6 @@
 ghost use Rattle.std.specs.Prelude.{◌≡◌, ◌↔◌, ◌+◌, ◌*◌, ◌<◌, ◌≤◌, ◌^◌, length};
 ghost use Rattle.words.specs.Words.{words_at, turned_masks, Misses, MissedAt, FirstHit};
 
-use certificate::Span;
 use file_numbers::{u64_at, u64_in};
 use meaning::Clause;
 use turned::{turned, u64_turned};
@@ -81,28 +80,29 @@ fn four_hit(file: &[u8], at: u32, i: u32, m: Masks) -> u64
 }
 
 // Past clauses that miss masks, four at a time.
-fn past_fours(file: &[u8], s: Span, i: u32, m: Masks) -> u32
-    requires { (i ≤ s.count) × (s.at + 16 * s.count ≤ length file.now) }
-    ensures { (i ≤ result) × (result ≤ s.count) × MissedAt file.now s.at (turned_masks m) i result }
+fn past_fours(file: &[u8], at: u32, count: u32, i: u32, m: Masks) -> u32
+    requires { (i ≤ count) × (at + 16 * count ≤ length file.now) }
+    ensures { (i ≤ result) × (result ≤ count) × MissedAt file.now at (turned_masks m) i result }
 {
-    let fours = (s.count as u32 - i) / 4;
+    let fours = (count - i) / 4;
     for k in 0..fours {
-        if four_hit(file, s.at, i + 4 * k, m) != 0 {
+        if four_hit(file, at, i + 4 * k, m) != 0 {
             return i + 4 * k;
         }
     }
     i + 4 * fours
 }
 
-// The first clause of a span from i on that has a fact in common with masks, where one has.
-pub fn next_hit(file: &[u8], s: Span, i: u32, wanted: Masks) -> Option<u32>
-    requires { (i ≤ s.count) × (s.at + 16 * s.count ≤ length file.now) }
-    ensures { FirstHit file.now s wanted i result }
+// The first of the clauses from i on that has a fact in common with masks, where one has. There may be more clauses than a span of a file
+// has.
+pub fn next_hit(file: &[u8], at: u32, count: u32, i: u32, wanted: Masks) -> Option<u32>
+    requires { (i ≤ count) × (at + 16 * count ≤ length file.now) }
+    ensures { FirstHit file.now at count wanted i result }
 {
     let m = turned_masks(wanted);
-    let first = past_fours(file, s, i, m);
-    for j in first..s.count as u32 {
-        if hit(file, s.at, j, m) != 0 {
+    let first = past_fours(file, at, count, i, m);
+    for j in first..count {
+        if hit(file, at, j, m) != 0 {
             return Some(j);
         }
     }

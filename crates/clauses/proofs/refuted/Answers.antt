@@ -1,6 +1,13 @@
 -- `clauses::refuted` meets its contract.
 -- Assumes nothing.
 use Rattle.std.proofs.Common.{rules}
+use mathlib.Core.Path.{◌≡◌}
+use Prim.Native.Nat.{◌≤◌}
+use native.Mathlib.Omega.{arith}
+use mathlib.Core.List.{List}
+use lib.ListN.{length, length-take}
+use Rattle.leaves.specs.declared.Leaf.{Leaf}
+use Rattle.leaves.specs.Leaves.{leaves_in}
 use Rattle.task.proofs.Tests.{holds}
 use Rattle.task.proofs.MaskLaws.{beyond_all}
 use Rattle.propagation.specs.declared.Setting.{Setting}
@@ -9,6 +16,11 @@ use Rattle.clauses.proofs.SetLaws.{InWords}
 use Rattle.clauses.proofs.StartLaws.{start_clause, nothing, start_ready, tells_stuck, tells_unmet, tells_worth, tells_none}
 use Rattle.clauses.proofs.refuted.Goals as goal
 
+-- the first two right leaves are two
+two : (right : List Leaf) → 2 ≤ length right → length (leaves_in right 2) ≡ 2
+unfolding leaves_in
+two right l = omega (arith, length-take 2 right)
+
 -- the action applies in no state
 pub returns-in_default : goal.returns-in_default
 returns-in_default c =
@@ -16,7 +28,7 @@ returns-in_default c =
     let a = c.args in
     let k : Setting = record { ends = a.ends; two = a.two; action = a.a } in
     let words : InWords a.ends = (search rules, search rules, search rules, search rules) in
-    tells_stuck a.file.now a.left.now a.right.now k words s.facts_bound.0 s.facts_bound.1 s.clausal s.pair.0 s.pair.1
+    tells_stuck a.file.now a.left.now (leaves_in a.right.now 2) k words s.facts_bound.0 s.facts_bound.1 s.clausal (two _ s.pair.0) s.pair.1
     (rw (beyond_all a.ends.facts s.facts_bound.0 c.all_facts.ensures) at c.in_default.ensures)
 
 -- it applies in none that meets the left clauses
@@ -28,7 +40,7 @@ returns-in_default-solve c =
     rw (beyond_all a.ends.facts s.facts_bound.0 c.all_facts.ensures) at c.in-Some.ensures in
     let k : Setting = record { ends = a.ends; two = a.two; action = a.a } in
     let words : InWords a.ends = (search rules, search rules, search rules, search rules) in
-    tells_unmet a.file.now a.left.now a.right.now k words s.facts_bound.0 s.facts_bound.1 s.clausal s.pair.0 s.pair.1
+    tells_unmet a.file.now a.left.now (leaves_in a.right.now 2) k words s.facts_bound.0 s.facts_bound.1 s.clausal (two _ s.pair.0) s.pair.1
     _ starts c.in_default-solve.ensures
 
 -- the search starts where the action applies, and no fact is on but the task's
@@ -49,6 +61,7 @@ worth-requires c =
     start_ready _ _ a.ends.facts s.facts_bound.0 a.a _ _ starts c.in-Some-solve.ensures
 
 pub returns-then-seek : goal.returns-then-seek
+unfolding leaves_in
 returns-then-seek c =
     let s = c.requires in
     let a = c.args in
@@ -56,10 +69,11 @@ returns-then-seek c =
     rw (beyond_all a.ends.facts s.facts_bound.0 c.all_facts.ensures) at c.in-Some.ensures in
     let k : Setting = record { ends = a.ends; two = a.two; action = a.a } in
     let words : InWords a.ends = (search rules, search rules, search rules, search rules) in
-    tells_worth a.file.now a.left.now a.right.now k words s.facts_bound.0 s.facts_bound.1 s.clausal s.pair.0 s.pair.1
+    tells_worth a.file.now a.left.now (leaves_in a.right.now 2) k words s.facts_bound.0 s.facts_bound.1 s.clausal (two _ s.pair.0) s.pair.1
     _ _ starts c.in-Some-solve.ensures c.seek.ensures (holds c.if-seek.true) c.worth.ensures
 
 pub returns : goal.returns
+unfolding leaves_in
 returns c =
     let s = c.requires in
     let a = c.args in
@@ -67,5 +81,5 @@ returns c =
     rw (beyond_all a.ends.facts s.facts_bound.0 c.all_facts.ensures) at c.in-Some.ensures in
     let k : Setting = record { ends = a.ends; two = a.two; action = a.a } in
     let words : InWords a.ends = (search rules, search rules, search rules, search rules) in
-    tells_none a.file.now a.left.now a.right.now k words s.facts_bound.0 s.facts_bound.1 s.clausal s.pair.0 s.pair.1
+    tells_none a.file.now a.left.now (leaves_in a.right.now 2) k words s.facts_bound.0 s.facts_bound.1 s.clausal (two _ s.pair.0) s.pair.1
     _ _ starts c.in-Some-solve.ensures c.seek.ensures c.if-seek.false

@@ -38,7 +38,7 @@ unfolding leaves_in
 refuted-requires-clause-pair c =
     let s = c.requires.searchable in
     let q = c.if-told.false in
-    (omega (arith, length-take 2 c.args.x.now.right.now, s.pair), unlisted_both c.args.x.now.right.now _ (s.few_right q) s.pair s.no_more (s.clausal_right q))
+    (s.pair, unlisted_both c.args.x.now.right.now _ (s.few_right q) s.pair s.no_more (s.clausal_right q))
 
 pub returns : goal.returns
 unfolding leaves_in

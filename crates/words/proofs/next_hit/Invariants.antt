@@ -5,4 +5,4 @@ use Rattle.words.specs.Words.{MissedAt, turned_masks}
 use Rattle.words.proofs.next_hit.Given as goal
 
 abbrev pub invariant-loop-j : goal.invariant-loop-j
-invariant-loop-j l = (l.i ≤ l.j) × MissedAt l.file l.s.at (turned_masks l.m) l.i l.j
+invariant-loop-j l = (l.i ≤ l.j) × MissedAt l.file l.at (turned_masks l.m) l.i l.j

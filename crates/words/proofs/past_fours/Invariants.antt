@@ -5,4 +5,4 @@ use Prim.Native.Nat.{◌+◌, ◌*◌}
 use Rattle.words.proofs.past_fours.Given as goal
 
 abbrev pub invariant-loop-k : goal.invariant-loop-k
-invariant-loop-k l = MissedAt l.file l.s.at (turned_masks l.m) l.i (l.i + 4 * l.k)
+invariant-loop-k l = MissedAt l.file l.at (turned_masks l.m) l.i (l.i + 4 * l.k)
