@@ -1,6 +1,6 @@
 -- Readings as the code answers them: a value is forgotten, a refusal keeps its number and place.
 -- Assumes nothing.
-use Rattle.std.specs.Prelude.{ℕ, zero, suc, ◌+◌, ◌/◌, Bool, true, List, eqb}
+use Rattle.std.specs.Prelude.{ℕ, zero, suc, ◌+◌, ◌/◌, Bool, true, false, List, eqb, Option, Some, None}
 use Rattle.std.specs.declared.result.Result as code
 use Rattle.std.specs.declared.result.Result.TheVariants.{Ok, Err}
 use Rattle.bodies.specs.declared.Form.{Form}
@@ -52,6 +52,15 @@ form_allows (States n most) len = up_to 8 most len
 form_allows (Clauses n two) len = true
 form_allows (One a) len = true
 form_allows (Two a b) len = true
+
+-- the same of a kind that may have no form: no length fits, and the limits say nothing
+abbrev pub may_fit : Option Form → ℕ → Bool
+may_fit None len = false
+may_fit (Some form) len = form_fits form len
+
+abbrev pub may_allow : Option Form → ℕ → Bool
+may_allow None len = true
+may_allow (Some form) len = form_allows form len
 
 -- what a body at a place, of that length, says
 abbrev pub form_body : List ℕ → Form → ℕ → ℕ → Result (Unit {0})

@@ -6,7 +6,7 @@ ghost use Rattle.std.specs.Prelude.{◌≡◌, ℕ, true, ◌+◌, ◌*◌, ◌/
 ghost use Rattle.std.proofs.Props.{props};
 ghost use Rattle.meaning.specs.Layout.{items, ascending, mask, reference, clause, up_to};
 ghost use Rattle.file_numbers.specs.ClauseRule.{clause_rule};
-ghost use Rattle.bodies.specs.Faults.{Answer, each, fault_from, form_fits, form_allows, form_body};
+ghost use Rattle.bodies.specs.Faults.{Answer, each, fault_from, form_fits, may_fit, may_allow, form_body};
 
 use file_numbers::{u16_at, u64_at};
 use meaning::Fault;
@@ -153,10 +153,13 @@ fn up_to(size: usize, most: usize, len: usize) -> bool
     (len % size == 0) & (len / size <= most)
 }
 
-// Whether a body's length fits its form.
-pub fn fits(form: Form, len: usize) -> bool
-    ensures { result ≡ form_fits form len }
+// Whether a body's length fits its form; where its kind has none, no length does.
+pub fn fits(form: Option<Form>, len: usize) -> bool
+    ensures { result ≡ may_fit form len }
 {
+    let Some(form) = form else {
+        return false;
+    };
     match form {
         Form::Bare => len == 0,
         Form::Numbers(_) => up_to(2, 256, len),
@@ -168,11 +171,11 @@ pub fn fits(form: Form, len: usize) -> bool
 }
 
 // Whether a check's limits allow it.
-pub fn allows(form: Form, len: usize) -> bool
-    ensures { result ≡ form_allows form len }
+pub fn allows(form: Option<Form>, len: usize) -> bool
+    ensures { result ≡ may_allow form len }
 {
     match form {
-        Form::States { most, .. } => up_to(8, most as usize, len),
+        Some(Form::States { most, .. }) => up_to(8, most as usize, len),
         _ => true,
     }
 }

@@ -36,7 +36,7 @@ fn assume(q: &Search, x: Assignment, c: Clause) -> Option<Assignment>
     if alike(q.setting.two, x, y) {
         return Some(y);
     }
-    solve(q, Some(x), y)
+    solve(q, Some(x), Some(y))
 }
 
 // ---- the search
@@ -145,7 +145,7 @@ pub fn refuted(file: &[u8], ends: Ends, left: &[Leaf], right: &[Leaf], two: bool
     let Some(x) = opposite(nothing, start) else {
         return false;
     };
-    let Some(y) = solve(&q, None, x) else {
+    let Some(y) = solve(&q, None, Some(x)) else {
         return false;
     };
     if seek(&q, &right[..2], 0, y) {

@@ -102,10 +102,10 @@ pub fn entry(file: &[u8], section: Section, i: u16, place: u32) -> Result<(), Fa
             place: kind_at,
         });
     };
-    if !fits(form, len - 1) {
+    if !fits(Some(form), len - 1) {
         return Err(Fault { number: 4, place });
     }
-    if !allows(form, len - 1) {
+    if !allows(Some(form), len - 1) {
         return Err(Fault { number: 19, place });
     }
     let start = at + 3;

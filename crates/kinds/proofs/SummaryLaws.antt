@@ -1,18 +1,21 @@
 -- What is found in the arrays, leaf by leaf: kinds, and the anchor.
 -- Assumes nothing.
-use mathlib.Core.Path.{◌≡◌, sym, ap, subst}
+use mathlib.Core.Path.{◌≡◌, refl, sym, ap, subst, ◌∙◌}
 use mathlib.Core.Logic.{⊎_elim}
 use Prim.Native.Nat.{ℕ, ◌+◌, ◌≤◌}
 use native.Mathlib.Nat.{eq-or-lt_of_le}
 use native.Mathlib.Omega.{arith}
 use mathlib.Core.Bool.{Bool, true, false, ◌||◌}
 use mathlib.Core.List.{List}
+use lib.ListN.{length}
 use lib.Dec.{T, eqb}
+use Rattle.std.specs.Prelude.{Option}
+use Rattle.std.specs.Option.{unwrap_or}
 use borrow.Author.Tests.{eq-eqb, ne_eqb}
 use Rattle.leaves.specs.declared.Leaf.{Leaf}
 use Rattle.leaves.specs.Leaves.{leaf_in}
 use Rattle.kinds.specs.declared.Flags.{Flags}
-use Rattle.kinds.specs.Summary.{may_anchor, kind_in, flags_in, NoAnchor, from_of, to_of, clauses_by, states_by, pair_by, permits_by}
+use Rattle.kinds.specs.Summary.{may_anchor, kind_in, flags_in, NoAnchor, from_of, to_of, clauses_by, states_by, pair_by, permits_by, Told}
 
 -- ---- the anchor
 
@@ -69,3 +72,26 @@ module _ (left right : List Leaf) (x : Flags) (e : x ≡ flags_in left right) wh
   pub flags_two : x.l5 ≡ kind_in left 5
   unfolding flags_in
   flags_two = ap (λ (y : Flags). y.l5) e
+
+  -- ---- what is told
+
+  pub told_by : (anchor : Option ℕ) (to actions r : ℕ) → r ≡ unwrap_or anchor to
+      → Told left right anchor to actions
+      (record {
+        listed = x.l3 || x.r3;
+        two = x.l5;
+        left_count = length left;
+        right_count = length right;
+        anchor = r;
+        actions = actions;
+      })
+  told_by anchor to actions r k =
+      record {
+        left_count_is = refl;
+        right_count_is = refl;
+        action_set = refl;
+        listed = flags_listed;
+        two = flags_two;
+        anchor_is = λ j w. k ∙ ap (λ (o : Option ℕ). unwrap_or o to) w;
+        no_anchor = λ w. k ∙ ap (λ (o : Option ℕ). unwrap_or o to) w;
+      }

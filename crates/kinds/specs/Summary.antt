@@ -2,7 +2,7 @@
 -- Only the code's inner promises speak of this.
 -- Assumes nothing.
 use Rattle.std.specs.Prelude.{◌≡◌, ℕ, ◌≤◌, ◌<◌, Bool, true, false, not, ◌&&◌, ◌||◌, List, length, T, eqb, leb}
-use Rattle.std.specs.Prelude.{Option, Some, MatchOption, IfSome, is_some}
+use Rattle.std.specs.Prelude.{Option, Some, None, MatchOption, is_some, Result, Ok, Err, is_ok}
 use Rattle.std.specs.List.{list_any}
 use Rattle.leaves.specs.declared.Leaf.{Leaf}
 use Rattle.certificate.specs.declared.BasicEntry.{BasicEntry}
@@ -72,17 +72,23 @@ module _ (x : Flags) where
 unfoldable pub permits_by : ℕ → Flags → ℕ → Bool → Bool
 permits_by rule x n anchored = elim (eqb rule 4) [ true ↦ pair_by x | false ↦ clauses_by x n || states_by x anchored ]
 
--- what is told of a permitted statement
-pub record Told (left right : List Leaf) (anchor : Option ℕ) (actions : ℕ) (r : Gathered) : Type 0 where
+-- what is told of a statement, permitted or not
+pub record Told (left right : List Leaf) (anchor : Option ℕ) (to actions : ℕ) (r : Gathered) : Type 0 where
   pub left_count_is : r.left_count ≡ length left
   pub right_count_is : r.right_count ≡ length right
   pub action_set : r.actions ≡ actions
   pub listed : r.listed ≡ kind_in left 3 || kind_in right 3
   pub two : r.two ≡ kind_in left 5
   pub anchor_is : (j : ℕ) → anchor ≡ Some j → r.anchor ≡ j
+  pub no_anchor : anchor ≡ None → r.anchor ≡ to
 
-pub record Summary (few : Bool) (rule : ℕ) (left : List Leaf) (outside : ℕ) (right : List Leaf) (actions : ℕ) (r : Option Gathered) : Type 0 where
+-- what is told, whether the statement is permitted (Ok) or not (Err)
+unfoldable pub either : Result Gathered Gathered → Gathered
+either (Ok g) = g
+either (Err g) = g
+
+pub record Summary (few : Bool) (rule : ℕ) (left : List Leaf) (outside : ℕ) (right : List Leaf) (actions : ℕ) (r : Result Gathered Gathered) : Type 0 where
   pub anchor : Option ℕ
   pub sought : Sought few left (from_of rule outside) (to_of rule outside (length left)) anchor
-  pub permits : is_some r ≡ permits_by rule (flags_in left right) (length right) (is_some anchor)
-  pub told : IfSome r (λ g. Told left right anchor actions g)
+  pub permits : is_ok r ≡ permits_by rule (flags_in left right) (length right) (is_some anchor)
+  pub told : Told left right anchor (to_of rule outside (length left)) actions (either r)

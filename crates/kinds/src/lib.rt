@@ -7,7 +7,7 @@ ghost use Rattle.kinds.specs.Summary.{may_anchor, kind_in, flags_in, Sought, fro
 use certificate::BasicEntry;
 use leaves::{Leaf, kind_of};
 
-// What is known of a permitted statement once its leaves stand in the two arrays.
+// What is known of a statement once its leaves stand in the two arrays.
 #[derive(Clone, Copy, PartialEq, Eq, Debug)]
 pub struct Gathered {
     // Some leaf is explicit; else all are of clauses.
@@ -16,7 +16,8 @@ pub struct Gathered {
     pub two: bool,
     pub left_count: usize,
     pub right_count: usize,
-    // The left leaf whose states are tried, where some leaf is explicit; else 0, not read. An Option would only say `listed` again.
+    // The first left leaf whose states are listed, of those that may be tried, or the place behind them. An Option would only say `listed`
+    // again: where some leaf is explicit, a permitted statement has one.
     pub anchor: usize,
     // The action set of rules 2 and 3; else 0, not read. An Option would only say the rule again.
     pub actions: u16,
@@ -89,6 +90,13 @@ fn find_anchor(few: bool, rule: u8, left: &[Leaf], outside: usize) -> Option<usi
     }
 }
 
+// The place behind the leaves that may be tried.
+fn anchors_end(rule: u8, outside: usize, all: usize) -> usize
+    ensures { result ≡ to_of rule outside all }
+{
+    if rule == 2 { all } else { outside }
+}
+
 // Whether the kinds are permitted: all of clauses with at most two right leaves, or listed states with an anchor; for rule 4
 // two of the three sorts, the listed states on the left, or clauses that do not both stand on the left.
 fn permits(rule: u8, x: Flags, right: usize, anchored: bool) -> bool
@@ -104,7 +112,8 @@ fn permits(rule: u8, x: Flags, right: usize, anchored: bool) -> bool
     if rule == 4 { pair } else { clauses | states }
 }
 
-// What a statement's leaves tell of it, the first ones on the left outside the bracket, and where the initial states are few or not.
+// What a statement's leaves tell of it, the first ones on the left outside the bracket, and where the initial states are few or not: Ok
+// where it is permitted, Err where it is not.
 pub fn summary(
     few: bool,
     rule: u8,
@@ -112,21 +121,23 @@ pub fn summary(
     outside: usize,
     right: &[Leaf],
     actions: u16,
-) -> Option<Gathered>
+) -> Result<Gathered, Gathered>
     requires { outside ≤ length left.now }
     ensures { Summary few rule left.now outside right.now actions result }
 {
     let x = flags_in(left, right);
     let anchor = find_anchor(few, rule, left, outside);
-    if !permits(rule, x, right.len(), anchor.is_some()) {
-        return None;
-    }
-    Some(Gathered {
+    let told = Gathered {
         listed: x.l3 | x.r3,
         two: x.l5,
         left_count: left.len(),
         right_count: right.len(),
-        anchor: anchor.unwrap_or(0),
+        anchor: anchor.unwrap_or(anchors_end(rule, outside, left.len())),
         actions,
-    })
+    };
+    if permits(rule, x, right.len(), anchor.is_some()) {
+        Ok(told)
+    } else {
+        Err(told)
+    }
 }

@@ -53,11 +53,30 @@ module _ (s u : ℕ) (Q : ℕ → Type 0) where
       ]
 
   -- each of them was passed, once the last was
+  pub passed_all : (from d : ℕ) → d ≡ 0 → Passed s u Q from d → Q (s - d) → (e : ℕ) → T (all_on e u) → e ≤ from → Q (s - e)
+  passed_all from d z p q e w l =
+      elim (dec_lt d e) [
+        | yes n ↦ p e w n l
+        | no n ↦ let i : d ≡ e = omega arith in subst (λ (x : ℕ). Q (s - x)) i q
+      ]
+
   pub passed_each : (d : ℕ) → d ≡ 0 → Passed s u Q u d → Q (s - d) → (e : ℕ) → T (all_on e u) → Q (s - e)
-  passed_each d z p q e w =
+  passed_each d z p q e w = passed_all u d z p q e w (within_le e u w)
+
+  -- each of them is so, those above d and the others
+  pub passed_rest : (d : ℕ) → Passed s u Q u d → ((e : ℕ) → T (all_on e u) → e ≤ d → Q (s - e)) → (e : ℕ) → T (all_on e u) → Q (s - e)
+  passed_rest d p q e w =
       elim (dec_lt d e) [
         | yes n ↦ p e w n (within_le e u w)
-        | no n ↦ let i : d ≡ e = omega arith in subst (λ (x : ℕ). Q (s - x)) i q
+        | no n ↦ q e w (omega arith)
+      ]
+
+  -- those down to d, and from there down to r
+  pub passed_on : (from d r : ℕ) → Passed s u Q from d → Passed s u Q d r → Passed s u Q from r
+  passed_on from d r p q e w l m =
+      elim (dec_lt d e) [
+        | yes n ↦ p e w n m
+        | no n ↦ q e w l (omega arith)
       ]
 
 -- ---- the initial states

@@ -1,10 +1,9 @@
 // Statements over listed states: whether an action in a listed state makes a statement untrue.
 #![tactic(auto)]
 
-ghost use Rattle.std.specs.Prelude.{◌≡◌, ◌↔◌, ◌+◌, ◌*◌, ◌≤◌, ◌<◌, ◌||◌, true, length, T, eqb, Some, IfSome, IsSomeAnd};
+ghost use Rattle.std.specs.Prelude.{◌≡◌, ◌↔◌, ◌+◌, ◌*◌, ◌≤◌, ◌<◌, ◌||◌, true, false, length, T, eqb, Some, IsSomeAnd};
 ghost use Rattle.std.specs.Int.Bits.{bit_and};
 ghost use Rattle.std.specs.Option.{option_eq};
-ghost use Rattle.std.proofs.Props.{props};
 ghost use Rattle.task.specs.Facts.{all_on};
 ghost use Rattle.task.specs.Task.{applies, after};
 ghost use Rattle.task.specs.Reach.{member};
@@ -13,6 +12,7 @@ ghost use Rattle.certificate.specs.Rows.{state_in, InOrder};
 ghost use Rattle.leaves.specs.Leaves.{leaf_in};
 ghost use Rattle.leaves.specs.Holds.{states_at, Orderly};
 ghost use Rattle.leaves.specs.Lists.{Each, Countered};
+ghost use Rattle.membership.specs.Found.{Found};
 ghost use Rattle.listed.specs.Listed.{Anchored};
 ghost use Rattle.listed.specs.Search.{Readable, Readable-prop, StatesAfter, Different, holds_one, told, shows_in};
 ghost use Rattle.listed.specs.Search.{LeadsTo, OneLess, OneInitial, Split};
@@ -68,29 +68,39 @@ fn different(x: &Listed) -> usize
     hi + 1
 }
 
-// Listed states that an action may lead to, the one of them that was found last, and which number is behind it.
+// Listed states that an action may lead to, and which number is behind the one of them that was found last.
 #[derive(Clone, Copy)]
 struct Trail<'a> {
     into: Listed<'a>,
-    last: Option<u64>,
     next: usize,
-    ghost found: { IfSome last (λ s. member s (states_at into.bytes.now into.span.at into.span.count) ≡ true) } by { Prim.hlevel props },
 }
 
 impl<'a> Trail<'a> {
-    // Whether a state is one of them. It is looked for behind the one found last, and not again where it is the same.
+    // Whether a state is the k-th of them.
+    #[inline(always)]
+    fn is_at(&self, k: usize, s: u64) -> bool
+        ensures { result ≡ true → Found self.now.into.bytes.now self.now.into.index.now self.now.into.span s (Some k) }
+    {
+        k < self.into.len() && self.into.state(k) == s
+    }
+
+    // Whether a state is one of them. It is looked for behind the one found last, where it often stands, and not again where it is the same.
     #[inline(always)]
     fn has(&mut self, s: u64) -> bool
         ensures same { self.new.into ≡ self.old.into }
         ensures found { result ≡ true → member s (states_at self.old.into.bytes.now self.old.into.span.at self.old.into.span.count) ≡ true }
     {
-        if self.last == Some(s) {
+        let next = self.next;
+        if self.is_at(next, s) {
+            self.next = next + 1;
             return true;
         }
-        let Some(k) = self.into.find(self.next, s) else {
+        if 0 < next && self.is_at(next - 1, s) {
+            return true;
+        }
+        let Some(k) = self.into.find(next, s) else {
             return false;
         };
-        self.last = Some(s);
         self.next = k + 1;
         true
     }
@@ -110,7 +120,7 @@ struct Statement<'a> {
 }
 
 impl<'a> Statement<'a> {
-    ghost use Rattle.listed.specs.Told.{shows, Follows};
+    ghost use Rattle.listed.specs.Told.{shows, Follows, listed_state, Next, NextUnled};
 
     // Whether the action applies in a state: one look at all that it needs tells.
     fn applies(&self, s: u64) -> bool
@@ -143,28 +153,44 @@ impl<'a> Statement<'a> {
         };
         Some(Trail {
             into: Listed::new(self.file, states),
-            last: None,
             next: 0,
         })
     }
 
-    // Whether a state does. One from which the action leads to a state of the trail does not.
-    #[inline(always)]
-    fn state_shows(&self, trail: &mut Option<Trail>, s: u64) -> bool
-        requires { Follows trail.old self.now }
-        ensures follows { Follows trail.new self.now }
-        ensures shows { result ≡ shows self.now s }
+    // Whether a state does.
+    fn state_shows(&self, s: u64) -> bool
+        ensures { result ≡ shows self.now s }
     {
-        if !self.applies(s) {
-            return false;
-        }
-        let t = after(self.a, s);
-        if let Some(trail) = trail {
-            if trail.has(t) {
-                return false;
+        self.applies(s) && self.shows(s, after(self.a, s))
+    }
+
+    // The first of listed states from number `from` on and before `to`, by size, that may do so: the action applies in it, and leads from
+    // it to no state of the trail. A loop of its own, without a call, so that all it goes by stays in registers.
+    #[inline(never)]
+    fn next_open(
+        &self,
+        trail: &Option<Trail>,
+        states: &Listed,
+        from: usize,
+        to: usize,
+    ) -> Option<usize>
+        requires follows { Follows trail.now self.now }
+        requires none { some_below from (λ k. shows self.now (listed_state states.now k)) ≡ false }
+        requires bounds { (from ≤ to) × (to ≤ states.now.span.count) }
+        ensures { Next (λ k. shows self.now (listed_state states.now k)) from to result }
+    {
+        let Some(mut trail) = *trail else {
+            return if from < to { Some(from) } else { None };
+        };
+        // Copies, so that the loop need not read them again.
+        let (x, states) = (*self, *states);
+        for i in from..to {
+            let s = states.state(i);
+            if x.applies(s) && !trail.has(after(x.a, s)) {
+                return Some(i);
             }
         }
-        self.shows(s, t)
+        None
     }
 
     // Whether one of the anchor's listed states does.
@@ -173,30 +199,26 @@ impl<'a> Statement<'a> {
         ensures { result ≡ some_below x.count (λ i. shows self.now (state_in self.now.file.now.bytes.now self.now.file.now.index.now x i)) }
     {
         let states = Listed::new(self.file, x);
-        let mut trail = self.trail();
-        for i in 0..different(&states) {
-            if self.state_shows(&mut trail, states.state(i)) {
+        let trail = self.trail();
+        let to = different(&states);
+        let mut i = 0;
+        while let Some(k) = self.next_open(&trail, &states, i, to) {
+            if self.state_shows(states.state(k)) {
                 return true;
             }
+            i = k + 1;
         }
         false
     }
 
     // Whether one of the states s - e does, for the masks e within a mask, which are no range to go over. The action applies in each of
     // them, and leads to the same state.
-    fn some_shows(&self, trail: &mut Option<Trail>, s: u64, mask: u64) -> bool
-        requires follows { Follows trail.old self.now }
+    fn some_shows(&self, s: u64, mask: u64) -> bool
         requires within { T (all_on mask s) }
         requires alike { LeadsTo self.now.a s mask (after self.now.a s) }
-        ensures follows { Follows trail.new self.now }
-        ensures shows { T result ↔ OneLess s mask (shows self.now) }
+        ensures { T result ↔ OneLess s mask (shows self.now) }
     {
         let t = after(self.a, s);
-        if let Some(trail) = trail {
-            if trail.has(t) {
-                return false;
-            }
-        }
         let mut e = mask;
         loop {
             if self.shows(s - e, t) {
@@ -209,6 +231,29 @@ impl<'a> Statement<'a> {
         }
     }
 
+    // The first of the states top - d, for the masks d within a mask from `from` down, from which the action leads to no state of the
+    // trail. They ascend as d goes down. A loop of its own, as `next_open` is.
+    #[inline(never)]
+    fn next_unled(&self, trail: &Option<Trail>, top: u64, mask: u64, from: u64) -> Option<u64>
+        requires follows { Follows trail.now self.now }
+        requires within { T (all_on mask top) × T (all_on from mask) }
+        ensures { NextUnled self.now top mask from result }
+    {
+        let Some(mut trail) = *trail else {
+            return Some(from);
+        };
+        let mut d = from;
+        loop {
+            if !trail.has(after(self.a, top - d)) {
+                return Some(d);
+            }
+            if d == 0 {
+                return None;
+            }
+            d = (d - 1) & mask;
+        }
+    }
+
     // Whether one of the initial states does, where the action applies in `top`. They are tried as top - d - e, for the masks d of facts
     // that it keeps and e of facts that it changes: whatever e is, it leads to the same state, and these ascend as d goes down.
     fn tried_show(&self, top: u64, kept: u64, changed: u64) -> bool
@@ -216,17 +261,18 @@ impl<'a> Statement<'a> {
         requires top { applies self.now.a top ≡ true }
         ensures { T result ↔ OneInitial self.now.file.now.ends (shows self.now) }
     {
-        let mut trail = self.trail();
+        let trail = self.trail();
         let mut d = kept;
-        loop {
-            if self.some_shows(&mut trail, top - d, changed) {
+        while let Some(r) = self.next_unled(&trail, top, kept, d) {
+            if self.some_shows(top - r, changed) {
                 return true;
             }
-            if d == 0 {
+            if r == 0 {
                 return false;
             }
-            d = (d - 1) & kept;
+            d = (r - 1) & kept;
         }
+        false
     }
 
     // Whether one of the initial states does. Where the action applies in none of them, as `top` tells, none does; else the unknown facts

@@ -6,6 +6,7 @@ ghost use Rattle.numbers.specs.Numbers.{premises_of, judgement_kind_of};
 
 // The rules of document 01's list: the number of each, and by a number how many premises its rule has and which judgement kind it gives.
 // Constants and no enum: the form that document 01 wants, and steps carry the number.
+#[derive(Clone, Copy)]
 pub struct RuleNumber;
 
 impl RuleNumber {

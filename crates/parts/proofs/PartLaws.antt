@@ -48,7 +48,7 @@ keep_split t (e ∷ es) = go (t e) (keep_split t es)
 
 module _ (f : File) where
   -- a permitted shape has few leaves
-  few_of : (anchors : Sides → List ℕ) (x : Sides) → T (permitted f anchors x)
+  pub few_of : (anchors : Sides → List ℕ) (x : Sides) → T (permitted f anchors x)
       → (length x.outer + length x.inner ≤ 8) × (length x.right ≤ 8)
   unfolding permitted of_literals
   few_of anchors x t =

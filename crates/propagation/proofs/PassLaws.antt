@@ -17,7 +17,7 @@ use Rattle.meaning.specs.declared.Clause.{Clause}
 use Rattle.propagation.specs.declared.Assignment.{Assignment}
 use Rattle.propagation.specs.Clauses.{Below}
 use Rattle.propagation.specs.Propagation.{mask, holding, failing, Meets, Held, Wide, Waiting, OneHead, Quiet}
-use Rattle.propagation.specs.Propagation.{Settled, Alike, Spared, Untouched, Tells, Going, NoneIn, Grown, Looked, PassedTo, Passed, SolvedTo}
+use Rattle.propagation.specs.Propagation.{Settled, Alike, Spared, Untouched, Tells, Going, NoneIn, Grown, Looked, PassedTo, Passed, SolvedTo, Solved, SolvedFrom}
 
 -- ---- what goes on
 
@@ -186,6 +186,12 @@ solved_conflict u v s m g = v s m (u.sound s m g)
 pub solved_fixed : {two : Bool} {P : Clause → Type 0} {x y r : Assignment} → Going (Meets P) x y → PassedTo two P y r → Alike two y r
     → SolvedTo two P x r
 solved_fixed u v e = record { goes = going_more (λ s m. (m, m)) u v.goes; settled = λ c p. looked_settled e (v.looked c p) }
+
+-- so from what is no conflict
+pub solved_from : {two : Bool} {P : Clause → Type 0} {x y : Assignment} (start r : Option Assignment) → start ≡ Some x → r ≡ Some y
+    → SolvedTo two P x y → SolvedFrom two P start r
+solved_from {two = two} {P = P} {x = x} start r e f u =
+    subst (λ (o : Option Assignment). SolvedFrom two P o r) (sym e) (subst (λ (o : Option Assignment). Solved two P x o) (sym f) u)
 
 -- more facts, a larger number
 pub grows_le : (a b : ℕ) → ((f : ℕ) → bit f a ≤ bit f b) → a ≤ b

@@ -55,14 +55,14 @@ clause_own bytes ends x i e = rw (clause_of, e)
 
 -- so of all of them
 module _ (bytes : List ℕ) (ends : Ends) (x : BasicEntry) (k : Effect) where
-  all_there : {s : Span} → words_of x ≡ Some s → Below (OfSet bytes ends x k) (clause_count x) ≡ Below (OfWords bytes s.at k) s.count
+  pub all_there : {s : Span} → words_of x ≡ Some s → Below (OfSet bytes ends x k) (clause_count x) ≡ Below (OfWords bytes s.at k) s.count
   all_there e = λ i. Below (λ n. Only (pulled_by k (clause_there bytes ends x n e i))) (count_there x e i)
 
   pub based_there : (two : Bool) (b : Option Assignment) (y : Assignment) {s : Span} → words_of x ≡ Some s
       → Based two (Below (OfSet bytes ends x k) (clause_count x)) b y → Based two (Below (OfWords bytes s.at k) s.count) b y
   based_there two b y e = subst (λ (P : Clause → Type 0). Based two P b y) (all_there e)
 
-  all_own : words_of x ≡ None → Below (OfSet bytes ends x k) (clause_count x) ≡ Below (OfOwn ends x k) (clause_count x)
+  pub all_own : words_of x ≡ None → Below (OfSet bytes ends x k) (clause_count x) ≡ Below (OfOwn ends x k) (clause_count x)
   all_own e = λ i. Below (λ n. Only (pulled_by k (clause_own bytes ends x n e i))) (clause_count x)
 
   pub passed_there : (two : Bool) (y : Assignment) (r : Option Assignment) {s : Span} → words_of x ≡ Some s

@@ -157,6 +157,11 @@ abbrev pub Solved : Bool → (Clause → Type 0) → Assignment → Option Assig
 Solved two P x None = NoneIn (Meets P) x
 Solved two P x (Some r) = SolvedTo two P x r
 
+-- the same from an assignment or a conflict, which stays one
+abbrev pub SolvedFrom : Bool → (Clause → Type 0) → Option Assignment → Option Assignment → Type 0
+SolvedFrom two P None r = r ≡ None
+SolvedFrom two P (Some x) r = Solved two P x r
+
 -- the clause c is taken to fail
 pub record OpposedTo (c : Clause) (x r : Assignment) : Type 0 where
   pub goes : Going (λ s. T (not (meets s c))) x r

@@ -2,11 +2,11 @@
 // changes. Clauses are read from the file whenever they are looked at; none is kept.
 #![tactic(auto)]
 
-ghost use Rattle.std.specs.Prelude.{◌≡◌, true, Some, ◌+◌, ◌-◌, ◌*◌, ◌<◌, ◌≤◌, ◌^◌, length};
+ghost use Rattle.std.specs.Prelude.{◌≡◌, true, Some, IfSome, ◌+◌, ◌-◌, ◌*◌, ◌<◌, ◌≤◌, ◌^◌, length};
 ghost use Rattle.task.specs.Facts.{without};
 ghost use Rattle.propagation.specs.Clauses.{fact_clause, clause_count, words_of, own_clause, clause_of, acting, effect_of};
 ghost use Rattle.propagation.specs.Clauses.{met_by, pulled_by, Only, Below, OfWords, OfOwn, OfLeaf, LeftOf, Clausal, Usable};
-ghost use Rattle.propagation.specs.Propagation.{Alike, Tells, Based, Passed, Solved, since};
+ghost use Rattle.propagation.specs.Propagation.{Alike, Tells, Based, Passed, SolvedFrom, since};
 ghost use Rattle.std.proofs.Props.{props};
 ghost use Rattle.propagation.specs.Usable.{usable_prop};
 
@@ -339,13 +339,13 @@ pub fn alike(two: bool, x: Assignment, y: Assignment) -> bool
     (x.on == y.on) & (!two | (x.off == y.off))
 }
 
-// Looks until nothing changes, or up to a conflict. The first look rests on the base, if there is one, and each later one on the one
-// before it.
-pub fn solve(q: &Search, base: Option<Assignment>, start: Assignment) -> Option<Assignment>
-    requires { Based q.now.setting.two (LeftOf q.now.file.now q.now.left.now q.now.setting) base start }
-    ensures { Solved q.now.setting.two (LeftOf q.now.file.now q.now.left.now q.now.setting) start result }
+// Looks until nothing changes, or up to a conflict; a conflict to start with stays one. The first look rests on the base, if there is one,
+// and each later one on the one before it.
+pub fn solve(q: &Search, base: Option<Assignment>, start: Option<Assignment>) -> Option<Assignment>
+    requires { IfSome start (λ x. Based q.now.setting.two (LeftOf q.now.file.now q.now.left.now q.now.setting) base x) }
+    ensures { SolvedFrom q.now.setting.two (LeftOf q.now.file.now q.now.left.now q.now.setting) start result }
 {
-    let mut x = start;
+    let mut x = start?;
     let mut from = base;
     loop {
         let y = pass(q, from, x)?;

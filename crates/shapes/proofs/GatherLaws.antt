@@ -8,7 +8,7 @@ use mathlib.Core.List.{List, [], ◌∷◌, ◌++◌, map}
 use lib.ListN.{length, take}
 use lib.Seq.{get_or-take}
 use lib.Dec.{T, eqb, eqb→eq}
-use Rattle.std.specs.Prelude.{Option, Some, None, is_some}
+use Rattle.std.specs.Prelude.{Option, Some, None, is_some, Result, is_ok}
 use Rattle.task.specs.Reach.{member, every}
 use Rattle.task.proofs.Tests.{and_left, and_right, holds}
 use Rattle.meaning.specs.File.{File}
@@ -145,17 +145,17 @@ module _ (f : File) (index : List ℕ) (rule a b : ℕ) (lit : literals_of f (si
     abbrev Sorts : Type 0
     Sorts = SortedBy f rule x
 
-    module _ (actions : ℕ) (r : Option Gathered) (dec : Summary (lists_init f) rule lefts_in n.outside rights_in actions r) where
+    module _ (actions : ℕ) (r : Result Gathered Gathered) (dec : Summary (lists_init f) rule lefts_in n.outside rights_in actions r) where
       found : is_some dec.anchor ≡ hit (lists_init f) (anchors_of f rule x)
       found = anchored f h x index lefts_in left_are low_left rule n.outside refl own dec.anchor dec.sought
 
       -- the shape by the kinds on the two sides
-      pub permits_are : is_some r ≡ permits_by rule (flags_by f x) (count_by f x) (hit (lists_init f) (anchors_of f rule x))
+      pub permits_are : is_ok r ≡ permits_by rule (flags_by f x) (count_by f x) (hit (lists_init f) (anchors_of f rule x))
       permits_are = dec.permits ∙ cc (flags_are, right_number, found)
 
       -- ---- the leaves
 
-      module _ (g : Gathered) (t : Told lefts_in rights_in dec.anchor actions g) where
+      module _ (g : Gathered) (t : Told lefts_in rights_in dec.anchor (to_of rule n.outside (length lefts_in)) actions g) where
         all_left : g.left_count ≡ n.left
         all_left = omega (arith, t.left_count_is, size_is index f lefts lefts_in left_are, on_left.count)
 

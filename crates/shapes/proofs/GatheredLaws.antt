@@ -8,7 +8,8 @@ use mathlib.Core.Bool.{Bool, true, false, ◌&&◌, ◌||◌}
 use mathlib.Core.List.{List, ◌++◌}
 use lib.ListN.{length, take}
 use lib.Dec.{T, eqb, eqb→eq, leb}
-use Rattle.std.specs.Prelude.{Option, Some, None, IfSome, is_some}
+use Rattle.std.specs.Prelude.{IfSome, Result, Ok, Err, is_ok}
+use Rattle.std.specs.Result.{result_ok}
 use Rattle.leaves.specs.declared.Leaf.{Leaf}
 use Rattle.task.specs.Reach.{member, every}
 use Rattle.task.proofs.Tests.{and_left, excluded, never, same, holds, is_false}
@@ -20,7 +21,7 @@ use Rattle.shapes.specs.Gathered.{Gathers}
 use Rattle.shapes.specs.declared.shape.Counts.{Counts}
 use Rattle.parts.specs.declared.Parts.{Parts}
 use Rattle.kinds.specs.declared.Gathered.{Gathered}
-use Rattle.kinds.specs.Summary.{clauses_by, states_by, pair_by, permits_by, Summary}
+use Rattle.kinds.specs.Summary.{clauses_by, states_by, pair_by, permits_by, either, Summary}
 use Rattle.parts.specs.Written.{sides_in, Parted, anchors_of, literals_of}
 use Rattle.shapes.specs.Arrays.{Filled}
 use Rattle.shapes.specs.Arrays.{Zeros}
@@ -31,10 +32,11 @@ use Rattle.shapes.proofs.ShapeLaws.{permitted_by, paired_by}
 use Rattle.shapes.proofs.SortLaws.{clash, sorted, sorted_pair, pair_few, pair_anchor}
 use Rattle.shapes.proofs.GatherLaws.{flags_by, count_by, SortedBy, permits_are, gathers}
 
--- what an option holds has Q where it has P
-if_some : {A : Type 0} (o : Option A) (P Q : A → Type 0) → IfSome o P → ((x : A) → o ≡ Some x → P x → Q x) → IfSome o Q
-if_some None P Q h k = h
-if_some (Some x) P Q h k = k x refl h
+-- what is told of a statement that is permitted has Q where it has P
+if_told : (r : Result Gathered Gathered) (P Q : Gathered → Type 0) → P (either r) → ((g : Gathered) → r ≡ Ok g → P g → Q g) → IfSome (result_ok r) Q
+unfolding either
+if_told (Ok g) P Q h k = k g refl h
+if_told (Err g) P Q h k = tt
 
 -- ---- what is not permitted
 
@@ -100,30 +102,30 @@ module _ (f : File) (index : List ℕ) (rule a b : ℕ) (p : Parts) (part : Part
 
   module _ (lit : literals_of f (sides_in p) ≡ true) (left₀ left right₀ right : List Leaf) (n : Counts)
       (fill : Filled f index (eqb rule 2) (sides_in p) left₀ left right₀ right n) (zeros : Zeros right₀)
-      (r : Option Gathered) (dec : Summary (lists_init f) rule (take n.left left) n.outside (take n.right right) p.actions r) where
+      (r : Result Gathered Gathered) (dec : Summary (lists_init f) rule (take n.left left) n.outside (take n.right right) p.actions r) where
     lit' : literals_of f x ≡ true
     lit' = subst (λ (y : Sides). literals_of f y ≡ true) sides lit
 
     fill' : Filled f index (eqb rule 2) x left₀ left right₀ right n
     fill' = subst (λ (y : Sides). Filled f index (eqb rule 2) y left₀ left right₀ right n) sides fill
 
-    permits : is_some r ≡ permits_by rule (flags_by f x) (count_by f x) (hit (lists_init f) (anchors_of f rule x))
+    permits : is_ok r ≡ permits_by rule (flags_by f x) (count_by f x) (hit (lists_init f) (anchors_of f rule x))
     permits = permits_are f index rule a b lit' left₀ left right₀ right n fill' p.actions r dec
 
     -- rules 1 to 3
     module _ (other : rule ≡ 4 → ⊥) where
-      sorts : is_some r ≡ (clauses_by (flags_by f x) (count_by f x) || states_by (flags_by f x) (hit (lists_init f) (anchors_of f rule x)))
+      sorts : is_ok r ≡ (clauses_by (flags_by f x) (count_by f x) || states_by (flags_by f x) (hit (lists_init f) (anchors_of f rule x)))
       sorts = permits ∙ permits_sorts rule (flags_by f x) (count_by f x) (hit (lists_init f) (anchors_of f rule x)) other
 
-      shape_sorts : is_some r ≡ shape_of f rule a b
+      shape_sorts : is_ok r ≡ shape_of f rule a b
       shape_sorts = sorts ∙ sym (permitted_by f x lit' few.0 few.1 (anchors_of f rule)) ∙ sym (part.shape other)
 
-      sorted_sorts : is_some r ≡ true → SortedBy f rule x
+      sorted_sorts : is_ok r ≡ true → SortedBy f rule x
       sorted_sorts e = sorted (flags_by f x) (count_by f x) (hit (lists_init f) (anchors_of f rule x)) (holds (sym sorts ∙ e))
 
     -- rule 4
     module _ (four : rule ≡ 4) where
-      pair : is_some r ≡ pair_by (flags_by f x)
+      pair : is_ok r ≡ pair_by (flags_by f x)
       pair = permits ∙ permits_pair rule (flags_by f x) (count_by f x) (hit (lists_init f) (anchors_of f rule x)) four
 
       abbrev Pair : ℕ → Type 0
@@ -141,20 +143,20 @@ module _ (f : File) (index : List ℕ) (rule a b : ℕ) (p : Parts) (part : Part
       paired : Pair rule
       paired = subst Pair (sym four) at_four
 
-      shape_pair : is_some r ≡ shape_of f rule a b
+      shape_pair : is_ok r ≡ shape_of f rule a b
       shape_pair = pair ∙ sym (paired lit').0
 
-      sorted_four : is_some r ≡ true → SortedBy f rule x
+      sorted_four : is_ok r ≡ true → SortedBy f rule x
       sorted_four e =
           sorted_pair (flags_by f x) (count_by f x) (hit (lists_init f) (anchors_of f rule x)) (holds (sym pair ∙ e))
           (paired lit').1 (paired lit').2
 
-    pub shape_right : is_some r ≡ shape_of f rule a b
+    pub shape_right : is_ok r ≡ shape_of f rule a b
     shape_right = by_rule_lem f rule a b p part shape_pair shape_sorts
 
-    pub gathered_right : IfSome r (λ g. Gathers f index rule a b left right g)
+    pub gathered_right : IfSome (result_ok r) (λ g. Gathers f index rule a b left right g)
     gathered_right =
-        if_some r _ _ dec.told (λ g e t.
-        let s = ap is_some e in
+        if_told r _ _ dec.told (λ g e t.
+        let s = ap is_ok e in
         gathers f index rule a b lit' left₀ left right₀ right n fill' p.actions r dec g t zeros part.actions
         (by_rule_lem f rule a b p part (λ u. sorted_four u s) (λ u. sorted_sorts u s)))

@@ -87,4 +87,5 @@ pub fn gather(
         &right[..n.right],
         p.actions,
     )
+    .ok()
 }

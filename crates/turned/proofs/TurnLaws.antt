@@ -45,7 +45,7 @@ unfolding turned4
 clear4 x y hx hy = halves_clear 16 turned2 room2 clear2 (λ a b t. (omega arith, omega arith)) (omega arith) x y (omega arith) (omega arith)
 
 -- turned numbers have a bit in common just where they had one before
-clear8 : (x y : ℕ) → x < 2 ^ 64 → y < 2 ^ 64 → (bit_and (turned8 x) (turned8 y) ≡ 0) ↔ (bit_and x y ≡ 0)
+pub clear8 : (x y : ℕ) → x < 2 ^ 64 → y < 2 ^ 64 → (bit_and (turned8 x) (turned8 y) ≡ 0) ↔ (bit_and x y ≡ 0)
 unfolding turned8
 clear8 x y hx hy = halves_clear 32 turned4 room4 clear4 (λ a b t. (omega arith, omega arith)) (omega arith) x y (omega arith) (omega arith)
 

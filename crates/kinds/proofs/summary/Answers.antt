@@ -1,22 +1,26 @@
--- `kinds::summary` meets its contract.
+-- `kinds::summary` meets its contract: the same is told, whether the statement is permitted or not.
 -- Assumes nothing.
-use mathlib.Core.Path.{refl}
 use borrow.Author.Rules.{rules}
-use Rattle.kinds.proofs.SummaryLaws.{flags_listed, flags_two}
+use Rattle.kinds.specs.Summary.{either}
+use Rattle.kinds.proofs.SummaryLaws.{told_by}
 use Rattle.kinds.proofs.summary.Goals as goal
 
-pub returns : goal.returns
-returns c =
+pub returns-then-permits : goal.returns-then-permits
+unfolding either
+returns-then-permits c =
     record {
       anchor = c.find_anchor-anchor.result;
       sought = c.find_anchor-anchor.ensures;
-      permits = search (rules, c.if-not-permits.false);
-      told = record {
-        left_count_is = refl;
-        right_count_is = refl;
-        action_set = refl;
-        listed = flags_listed _ _ _ c.flags_in-x.ensures;
-        two = flags_two _ _ _ c.flags_in-x.ensures;
-        anchor_is = λ j e. search (rules, e);
-      };
+      permits = search (rules, c.if-permits.true);
+      told = told_by _ _ _ c.flags_in-x.ensures _ _ _ _ (search rules);
+    }
+
+pub returns-else-permits : goal.returns-else-permits
+unfolding either
+returns-else-permits c =
+    record {
+      anchor = c.find_anchor-anchor.result;
+      sought = c.find_anchor-anchor.ensures;
+      permits = search (rules, c.if-permits.false);
+      told = told_by _ _ _ c.flags_in-x.ensures _ _ _ _ (search rules);
     }

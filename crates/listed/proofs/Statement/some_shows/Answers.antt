@@ -1,6 +1,6 @@
 -- `listed::Statement::some_shows` meets its contract.
 -- Assumes nothing.
-use Prim.Native.Nat.{ℕ, ◌-◌}
+use Prim.Native.Nat.{ℕ}
 use mathlib.Core.Path.{◌≡◌, subst, sym, ◌∙◌}
 use mathlib.Core.Bool.{false}
 use lib.Dec.{T}
@@ -8,7 +8,6 @@ use Rattle.task.proofs.Submasks.{below_within}
 use Rattle.listed.specs.Told.{shows}
 use Rattle.listed.specs.declared.Statement.{Statement}
 use Rattle.listed.proofs.InitialLaws.{self_within, less_le, none_passed, passed_next, passed_each}
-use Rattle.listed.proofs.ShownLaws.{trailed}
 use Rattle.listed.proofs.Statement.some_shows.Goals as goal
 
 -- a state does not show it
@@ -21,18 +20,8 @@ loop-s-init c = (self_within _, none_passed _ _ (Silent c.args.self.now) _)
 pub overflow_sub-s : goal.overflow_sub-s
 overflow_sub-s c = less_le _ _ _ c.loop-s.invariant.0 c.requires.within
 
--- where the action leads to a state of the trail, none does
-pub returns-then-has-clause-shows : goal.returns-then-has-clause-shows
-returns-then-has-clause-shows c =
-    let x = c.args in (
-      (λ z. absurd z),
-      (λ (e, w, h).
-          let q = c.after-t.ensures ∙ (c.requires.alike e w).1 in
-          subst T (trailed x.self.now c.in-Some.trail.into (rw c.in-Some.is at c.requires.follows) (x.s - e) q (c.has.ensures.found c.if-has.true)) h),
-    )
-
-pub returns-then-e-eq0-clause-shows : goal.returns-then-e-eq0-clause-shows
-returns-then-e-eq0-clause-shows c =
+pub returns-then-e-eq0 : goal.returns-then-e-eq0
+returns-then-e-eq0 c =
     let last = sym c.shows.ensures ∙ c.if-shows.false in
     let none = passed_each _ _ (Silent c.args.self.now) _ c.if-e-eq0.true c.loop-s.invariant.1 last in
     ((λ x. absurd x), (λ (e, w, h). subst T (none e w) h))

@@ -13,10 +13,10 @@ pub returns-clause-shape : goal.returns-clause-shape
 returns-clause-shape c =
     let sum = rw c.requires.few at c.summary.ensures in
     let t = sym c.literals.ensures ∙ search (rules, c.if-not-literals.false) in
-    shape_right _ _ _ _ _ _ c.in_ok-p.ensures t _ _ _ _ _ c.fill-n.ensures c.requires.zeros _ sum
+    c.ok.ensures.variant ∙ shape_right _ _ _ _ _ _ c.in_ok-p.ensures t _ _ _ _ _ c.fill-n.ensures c.requires.zeros _ sum
 
 pub returns-clause-leaves : goal.returns-clause-leaves
 returns-clause-leaves c =
     let sum = rw c.requires.few at c.summary.ensures in
     let t = sym c.literals.ensures ∙ search (rules, c.if-not-literals.false) in
-    gathered_right _ _ _ _ _ _ c.in_ok-p.ensures t _ _ _ _ _ c.fill-n.ensures c.requires.zeros _ sum
+    rw c.ok.ensures.value (gathered_right _ _ _ _ _ _ c.in_ok-p.ensures t _ _ _ _ _ c.fill-n.ensures c.requires.zeros _ sum)
